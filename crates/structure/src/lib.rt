@@ -1,0 +1,39 @@
+//! Which groups of controllers are enough, and who leads: what the engine may know of a yard's wiring.
+
+ghost use mathlib.Core.Path.{_≡_};
+ghost use Rattle.std.specs.Finite.{nth};
+ghost use Rattle.structure.specs.Groups.{has};
+ghost use Rattle.structure.specs.Meanings.{Meaning, Laws};
+
+/// A group of controllers: bit i stands for controller i.
+pub type Group = u16;
+
+/// Whether a controller belongs to a group.
+pub fn belongs(controller: u8, group: Group) -> bool
+    ensures { λ r. ⌜ r ≡ has group controller ⌝ }
+{
+    controller < 16 && (group >> controller) % 2 == 1
+}
+
+/// A yard of 1 to 16 controllers, by which of its groups are enough and who leads.
+///
+/// A question alters nothing and is never refused.
+pub trait Structure {
+    /// What it means: how many controllers, which groups are enough, and the list of leads.
+    ghost meaning: { Self → Meaning };
+
+    /// The four laws, which every implementation owes.
+    law lawful: { (s : Self) → Laws (meaning s) };
+
+    /// How many controllers the yard has.
+    fn size(&self) -> u8
+        ensures { λ r. ⌜ r ≡ meaning (now (self .entry)) .size ⌝ };
+
+    /// Whether a group is enough. Controllers outside the yard count for nothing.
+    fn enough(&self, group: Group) -> bool
+        ensures { λ r. ⌜ r ≡ meaning (now (self .entry)) .enough group ⌝ };
+
+    /// The lead at a place, from 0, or nothing past the last one.
+    fn lead(&self, place: usize) -> Option<u8>
+        ensures { λ r. ⌜ r ≡ nth (meaning (now (self .entry)) .leads) place ⌝ };
+}
