@@ -1,7 +1,7 @@
 -- Groups as numbers, bit by bit: what the operators on numbers say of membership.
 use Prim.Native.Nat.{ℕ, zero, suc, min, suc-le-suc, _+_, _-_, _*_, _/_, _%_, _^_, _<_, _≤_}
 use mathlib.Core.Path.{_≡_, refl, sym, ap, _∙_}
-use mathlib.Core.Bool.{Bool, true, false, not, _||_}
+use mathlib.Core.Bool.{Bool, true, false, not, _&&_, _||_}
 use mathlib.Core.Logic.{_⊎_, inl, inr}
 use native.Mathlib.Nat.{div-eq-of-lt, div-one, zero-div, pow-suc, mod-eq-of-lt}
 use native.Mathlib.Numerals.{one-add}
@@ -12,8 +12,8 @@ use lib.Pow.{pow-mono}
 use Rattle.std.specs.Orderings.{Decides}
 use Rattle.std.proofs.shelf.Bits.{pow-pos, shr-shr, and-shr, and-le-l, and-mask, mod-below}
 use Rattle.std.proofs.shelf.Tests.{cases-lt, cases-eq, cases-bool, ne-eqb, eqb-true, eq-eqb, or-cases, or-left, or-right, not-true, not-from-false, both-ways}
-use Rattle.std.proofs.shelf.Ways.{decides-eqb, decides-below-and, same-from-decides}
-use Rattle.structure.specs.Groups.{_∈_, has, everyone, Within, within, Meets, Shares}
+use Rattle.std.proofs.shelf.Ways.{decides-eqb, decides-and, decides-like, decides-below-and, decides-below-or, same-from-decides}
+use Rattle.structure.specs.Groups.{_∈_, has, everyone, Within, within, Meets, meets, Shares, shares}
 
 -- ---- the tests
 pub has-decides : (g i : ℕ) → Decides (has g i) (i ∈ g)
@@ -33,6 +33,18 @@ within-decides n a b = decides-below-and (λ i. not (has a i) || has b i) (λ i.
         | inr f ↦ or-left (not (has a i)) (has b i) (not-from-false (has a i) f)
       ],
     )
+
+pub meets-decides : (n a b : ℕ) → Decides (meets n a b) (Meets n a b)
+meets-decides n a b =
+    let found = decides-below-or (λ i. has a i && has b i) (λ i. (i ∈ a) × (i ∈ b)) (λ k. meets k a b)
+        (λ i. decides-and (has a i) (has b i) (has-decides a i) (has-decides b i)) refl (λ _. refl) n in
+    decides-like (meets n a b) (λ (i, h, (x, y)). (i, h, x, y)) (λ (i, h, x, y). (i, h, (x, y))) found
+
+pub shares-decides : (n a b c : ℕ) → Decides (shares n a b c) (Shares n a b c)
+shares-decides n a b c =
+    let found = decides-below-or (λ i. has a i && (has b i && has c i)) (λ i. (i ∈ a) × ((i ∈ b) × (i ∈ c))) (λ k. shares k a b c)
+        (λ i. decides-and (has a i) (has b i && has c i) (has-decides a i) (decides-and (has b i) (has c i) (has-decides b i) (has-decides c i))) refl (λ _. refl) n in
+    decides-like (shares n a b c) (λ (i, h, (x, (y, z))). (i, h, x, y, z)) (λ (i, h, x, y, z). (i, h, (x, (y, z)))) found
 
 -- ---- the bits of halves
 half-below : (n a : ℕ) → a < 2 ^ suc n → a / 2 < 2 ^ n

@@ -13,7 +13,7 @@ use Rattle.std.proofs.shelf.Bits.{mod-below, shr-shr}
 use Rattle.std.proofs.shelf.Lists.{length-push, getD-push, getD-append-left}
 use Rattle.std.proofs.shelf.Tests.{cases-lt, cases-eq, cases-bool, cases-order}
 use Rattle.structure.specs.Groups.{_∈_, has, everyone, Within, members, count}
-use Rattle.structure.proofs.Bits.{has-decides, everyone-has}
+use Rattle.structure.proofs.Bits.{has-decides, everyone-has, everyone-below, same-group}
 
 -- ---- one controller more
 pub members-in : (i g : ℕ) → has g i ≡ true → members (suc i) g ≡ members i g ++ i ∷ []
@@ -127,6 +127,13 @@ count-less (suc n) a b i w l x y =
           omega (arith, count-part n a b (λ j h. w j (omega arith)), mod-below (a / 2 ^ n) 2 (omega arith))
       | inr ne ↦ omega (arith, count-less n a b i (λ j h. w j (omega arith)) (omega arith) x y)
     ]
+
+-- a group with as many controllers as there are is the group of all
+pub count-full : (n g : ℕ) → g < 2 ^ n → count n g ≡ count n (everyone n) → g ≡ everyone n
+count-full n g l e = same-group n g (everyone n) l (everyone-below n) (λ i h _. everyone-has n i h) all
+  where
+    all : Within n (everyone n) g
+    all i h _ = elim (cases-eq (g / 2 ^ i % 2) 1) [ inl m ↦ m | inr out ↦ absurd (omega (arith, count-less n g (everyone n) i (λ j k _. everyone-has n j k) h (everyone-has n i h) out)) ]
 
 -- with one controller or more there is a first one
 pub count-some : (n g : ℕ) → 0 < count n g → (i : ℕ) × (i < n) × (i ∈ g)

@@ -2,7 +2,7 @@
 use Prim.Native.Nat.{ℕ, zero, suc, _+_, _-_, _/_, _%_, _^_, _<_}
 use mathlib.Core.Path.{_≡_}
 use mathlib.Core.List.{List, [], _∷_, _++_}
-use mathlib.Core.Bool.{Bool, true, cond, not, _&&_, _||_}
+use mathlib.Core.Bool.{Bool, true, false, cond, not, _&&_, _||_}
 use lib.Dec.{eqb}
 
 -- A group is a number, and controller i belongs to it where bit i is 1: the one definition of membership.
@@ -31,9 +31,19 @@ within (suc i) a b = (not (has a i) || has b i) && within i a b
 abbrev pub Meets : ℕ → ℕ → ℕ → Type 0
 Meets n a b = (i : ℕ) × (i < n) × (i ∈ a) × (i ∈ b)
 
+-- the same as a test
+abbrev pub meets : ℕ → ℕ → ℕ → Bool
+meets zero a b = false
+meets (suc i) a b = (has a i && has b i) || meets i a b
+
 -- some controller, of the first n, belongs to all three groups
 abbrev pub Shares : ℕ → ℕ → ℕ → ℕ → Type 0
 Shares n a b c = (i : ℕ) × (i < n) × (i ∈ a) × (i ∈ b) × (i ∈ c)
+
+-- the same as a test
+abbrev pub shares : ℕ → ℕ → ℕ → ℕ → Bool
+shares zero a b c = false
+shares (suc i) a b c = (has a i && (has b i && has c i)) || shares i a b c
 
 -- the controllers of a group, of the first n, by rising number
 abbrev pub members : ℕ → ℕ → List ℕ
