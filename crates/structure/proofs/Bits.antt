@@ -91,6 +91,15 @@ some-in (suc n) g l p = elim (cases-eq (g % 2) 1) [
       (suc (r .0), suc-le-suc (r .1), half-in (r .0) g (r .2))
 ]
 
+-- a number of 2 ^ n or more has a controller from n on
+pub high-in : (n g : ℕ) → 2 ^ n ≤ g → (i : ℕ) × (n ≤ i) × (i ∈ g)
+high-in zero g l = let (i, _, m) = some-in g g (below-pow g) (omega arith) in (i, omega arith, m)
+  where
+    below-pow : (k : ℕ) → k < 2 ^ k
+    below-pow zero = omega arith
+    below-pow (suc k) = omega (arith, below-pow k, pow-suc 2 k)
+high-in (suc n) g l = let (i, h, m) = high-in n (g / 2) (omega (arith, pow-suc 2 n)) in (suc i, omega arith, half-in i g m)
+
 -- ---- `&` is the group of those in both
 and-bit : (a b i : ℕ) → bitAnd a b / 2 ^ i % 2 ≡ min (a / 2 ^ i % 2) (b / 2 ^ i % 2)
 and-bit a b i = ap (λ x. x % 2) (and-shr a b i) ∙ omega (arith, and-step (a / 2 ^ i) (b / 2 ^ i))

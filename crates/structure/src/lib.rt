@@ -1,8 +1,9 @@
 //! Which groups of controllers are enough, and who leads: what the engine may know of a yard's wiring.
 
 ghost use mathlib.Core.Path.{_≡_};
+ghost use Prim.Native.Nat.{ℕ, _<_, _^_};
 ghost use Rattle.std.specs.Finite.{nth};
-ghost use Rattle.structure.specs.Groups.{has};
+ghost use Rattle.structure.specs.Groups.{has, within};
 ghost use Rattle.structure.specs.Meanings.{Meaning, Laws};
 
 /// A group of controllers: bit i stands for controller i.
@@ -13,6 +14,13 @@ pub fn belongs(controller: u8, group: Group) -> bool
     ensures { λ r. ⌜ r ≡ has group controller ⌝ }
 {
     controller < 16 && (group >> controller) % 2 == 1
+}
+
+/// Whether a group contains another, or equals it.
+pub fn contains(group: Group, part: Group) -> bool
+    ensures { λ r. ⌜ ((n : ℕ) → part < 2 ^ n → r ≡ within n part group) ⌝ }
+{
+    part & group == part
 }
 
 /// A yard of 1 to 16 controllers, by which of its groups are enough and who leads.

@@ -1,0 +1,88 @@
+ghost use mathlib.Core.Path.{_≡_};
+ghost use mathlib.Core.List.{[], _∷_, _++_};
+ghost use Prim.Native.Nat.{ℕ, _<_, _^_};
+ghost use Rattle.std.specs.declared.result.Result.the-variants.{Ok, Err};
+ghost use Rattle.survivor.specs.Drafts.{size-of, sets-of, making, adding, misplaced, comparable, first-comparable, Addable, AgainstMaking, AgainstAdding};
+ghost use Rattle.survivor.specs.Refusals.{said};
+use crate::refusals::DraftRefusal;
+use crate::tables::Draft;
+use structure::Group;
+use structure::contains;
+
+/// Whether one of two sets contains or equals the other.
+fn comparable(a: Group, b: Group) -> bool
+    ensures { λ r. ⌜ ((n : ℕ) → a < 2 ^ n → b < 2 ^ n → r ≡ comparable n a b) ⌝ }
+{
+    contains(b, a) || contains(a, b)
+}
+
+impl Draft {
+    /// A draft without a set, for a yard of `n` controllers.
+    pub fn new(n: u32) -> Result<Draft, DraftRefusal>
+        ensures answer { λ r. ⌜ said r ≡ making n ⌝ }
+        ensures reason { λ r. ⌜ elim r [ Ok d ↦ (size-of d ≡ n) × (sets-of d ≡ []) | Err e ↦ AgainstMaking n e ] ⌝ }
+    {
+        if n == 0 || n > 16 {
+            return Err(DraftRefusal::YardSize);
+        }
+        Ok(Draft {
+            size: n as u8,
+            count: 0,
+            sets: [0; 64],
+        })
+    }
+
+    /// How many controllers the yard has.
+    pub fn size(&self) -> u8
+        ensures { λ r. ⌜ r ≡ size-of (now (self .entry)) ⌝ }
+    {
+        self.size
+    }
+
+    /// The sets, in the order of their places.
+    pub fn sets(&self) -> &[Group]
+        ensures { λ r. ⌜ now r ≡ sets-of (now (self .entry)) ⌝ }
+    {
+        &self.sets[0..self.count]
+    }
+
+    /// Whether a set is empty or names a controller outside the yard.
+    fn misplaced(&self, set: Group) -> bool
+        ensures { λ r. ⌜ r ≡ misplaced (size-of (now (self .entry))) set ⌝ }
+    {
+        set == 0 || u32::from(set) >> self.size != 0
+    }
+
+    /// The lowest place of a set that contains, equals or lies within this one.
+    fn first_comparable(&self, set: Group) -> Option<usize>
+        requires { ⌜ set < 2 ^ size-of (now self) ⌝ }
+        ensures { λ r. ⌜ r ≡ first-comparable (size-of (now (self .entry))) 1 (sets-of (now (self .entry))) set ⌝ }
+    {
+        for (i, old) in self.sets().iter().enumerate() {
+            if comparable(*old, set) {
+                return Some(i + 1);
+            }
+        }
+        None
+    }
+
+    /// Takes a set into the draft, at the next place. A refused one leaves the draft as it was.
+    pub fn add(&mut self, set: Group) -> Result<(), DraftRefusal>
+        ensures answer { λ r. ⌜ said r ≡ adding (size-of (now (self .entry))) (sets-of (now (self .entry))) set ⌝ }
+        ensures reason { λ r. ⌜ elim r [ Ok _ ↦ Addable (size-of (now (self .entry))) (sets-of (now (self .entry))) set | Err e ↦ AgainstAdding (size-of (now (self .entry))) (sets-of (now (self .entry))) set e ] ⌝ }
+        ensures after { λ r. ⌜ elim r [ Ok _ ↦ (size-of (now (self .exit)) ≡ size-of (now (self .entry))) × (sets-of (now (self .exit)) ≡ sets-of (now (self .entry)) ++ set ∷ []) | Err e ↦ now (self .exit) ≡ now (self .entry) ] ⌝ }
+    {
+        if self.misplaced(set) {
+            return Err(DraftRefusal::OutsideYard);
+        }
+        if self.count == 64 {
+            return Err(DraftRefusal::Full);
+        }
+        if let Some(place) = self.first_comparable(set) {
+            return Err(DraftRefusal::Comparable(place));
+        }
+        self.sets[self.count] = set;
+        self.count += 1;
+        Ok(())
+    }
+}
