@@ -7,13 +7,14 @@ use mathlib.Core.Logic.{_⊎_, inl, inr}
 use native.Mathlib.Nat.{pow-suc}
 use native.Mathlib.Numerals.{add-one}
 use native.Mathlib.Omega.{arith}
+use lib.Bits.{bitAnd}
 use lib.Count.{ones, ones-step}
 use lib.ListN.{length, getD}
-use Rattle.std.proofs.shelf.Bits.{mod-below, shr-shr}
+use Rattle.std.proofs.shelf.Bits.{mod-below, shr-shr, and-le-r}
 use Rattle.std.proofs.shelf.Lists.{length-push, getD-push, getD-append-left}
 use Rattle.std.proofs.shelf.Tests.{cases-lt, cases-eq, cases-bool, cases-order}
 use Rattle.structure.specs.Groups.{_∈_, has, everyone, Within, members, count}
-use Rattle.structure.proofs.Bits.{has-decides, everyone-has, everyone-below, same-group}
+use Rattle.structure.proofs.Bits.{has-decides, and-in, in-and, everyone-has, everyone-below, same-group}
 
 -- ---- one controller more
 pub members-in : (i g : ℕ) → has g i ≡ true → members (suc i) g ≡ members i g ++ i ∷ []
@@ -154,3 +155,9 @@ pub ones-count : (n g : ℕ) → g < 2 ^ n → ones g ≡ count n g
 unfolding ones
 ones-count zero g l = let z : g ≡ 0 = omega arith in rw z refl
 ones-count (suc n) g l = omega (arith, ones-step g, count-low n g, ones-count n (g / 2) (omega (arith, pow-suc 2 n)))
+
+pub ones-cut : (n g : ℕ) → ones (bitAnd g (everyone n)) ≡ count n g
+ones-cut n g =
+    let part = count-part n (bitAnd g (everyone n)) g (λ i _ m. in-and g (everyone n) i m .0) in
+    let whole = count-part n g (bitAnd g (everyone n)) (λ i l m. and-in g (everyone n) i m (everyone-has n i l)) in
+    omega (arith, ones-count n (bitAnd g (everyone n)) (omega (arith, and-le-r g (everyone n), everyone-below n)))

@@ -1,9 +1,9 @@
 //! Which groups of controllers are enough, and who leads: what the engine may know of a yard's wiring.
 
 ghost use mathlib.Core.Path.{_≡_};
-ghost use Prim.Native.Nat.{ℕ, _<_, _^_};
+ghost use Prim.Native.Nat.{ℕ, _<_, _≤_, _^_};
 ghost use Rattle.std.specs.Finite.{nth};
-ghost use Rattle.structure.specs.Groups.{has, within};
+ghost use Rattle.structure.specs.Groups.{has, within, everyone};
 ghost use Rattle.structure.specs.Meanings.{Meaning, Laws};
 
 /// A group of controllers: bit i stands for controller i.
@@ -21,6 +21,14 @@ pub fn contains(group: Group, part: Group) -> bool
     ensures { λ r. ⌜ ((n : ℕ) → part < 2 ^ n → r ≡ within n part group) ⌝ }
 {
     part & group == part
+}
+
+/// The group of all controllers of a yard of `n`, of which 16 count at most.
+pub fn everyone(n: u8) -> Group
+    ensures yard { λ r. ⌜ (n ≤ 16 → r ≡ everyone n) ⌝ }
+    ensures beyond { λ r. ⌜ (16 < n → r ≡ everyone 16) ⌝ }
+{
+    if n < 16 { (1u16 << n) - 1 } else { u16::MAX }
 }
 
 /// A yard of 1 to 16 controllers, by which of its groups are enough and who leads.

@@ -7,7 +7,7 @@ ghost use lib.ListN.{length, take};
 ghost use Rattle.std.specs.Results.{isOk};
 ghost use Rattle.std.specs.declared.option.Option.the-variants.{Some, None};
 ghost use Rattle.std.specs.declared.result.Result.the-variants.{Ok, Err};
-ghost use Rattle.structure.specs.Groups.{members, everyone};
+ghost use Rattle.structure.specs.Groups.{members};
 ghost use Rattle.cores.specs.Leads.{leading-core, meets-all};
 ghost use Rattle.cores.specs.Sharing.{Threes-share, Splits-keep-a-core, Wordings-agree};
 ghost use Rattle.survivor.specs.Drafts.{size-of, sets-of};
@@ -19,6 +19,7 @@ use structure::Group;
 use structure::Structure;
 use structure::belongs;
 use structure::contains;
+use structure::everyone;
 
 /// The first `size` controllers' members of a group, by rising number, and how many they are.
 fn list_members(size: u8, group: Group) -> ([u8; 16], usize)
@@ -66,19 +67,12 @@ impl Draft {
         true
     }
 
-    /// The group of all controllers.
-    fn everyone(&self) -> Group
-        ensures { λ r. ⌜ r ≡ everyone (size-of (now (self .entry))) ⌝ }
-    {
-        ((1u32 << self.size) - 1) as u16
-    }
-
     /// The core of least size, among equals the one with the least number: one pass over the groups of the yard.
     fn leading_core(&self) -> Group
         requires { ⌜ 0 < length (sets-of (now self)) ⌝ }
         ensures { λ r. ⌜ r ≡ leading-core (size-of (now (self .entry))) (sets-of (now (self .entry))) ⌝ }
     {
-        let all = self.everyone();
+        let all = everyone(self.size);
         let mut best = all;
         let mut fewest = all.count_ones();
         for group in 1..all {

@@ -12,13 +12,13 @@ use Rattle.survivor.proofs.tables.Draft.leading_core.Needs as need
 use Rattle.survivor.proofs.tables.Draft.leading_core.Needs.{then-ones-fewest·then-meets-all, else-ones-fewest, else-ones-fewest·by·then-ones-fewest·else-meets-all, else-ones-fewest·by·else-ones-fewest}
 
 pub loop-group-holds : need.loop-group-holds
-loop-group-holds c = let d = c .args .self .now in found-none (d .size) (sets-of d) (wiring d (c .pre)) (c .everyone-all .result) (c .everyone-all .ensures)
+loop-group-holds c = let d = c .args .self .now in found-none (d .size) (sets-of d) (wiring d (c .pre)) (c .everyone-all .result) (c .everyone-all .ensures .yard (d .high))
 
 pub loop-group-again : need.loop-group-again
 loop-group-again c =
     let d = c .args .self .now in
     let k = c .loop-group .group in
-    let within : k < everyone (d .size) = omega (arith, c .everyone-all .ensures) in
+    let within : k < everyone (d .size) = omega (arith, c .everyone-all .ensures .yard (d .high)) in
     elim (c .if-ones-fewest .came) [
       | then-ones-fewest·then-meets-all w ↦
           rw (w .best-is, w .fewest-is) (found-takes (d .size) (sets-of d) (wiring d (c .pre)) k (c .loop-group .best) (c .loop-group .fewest) within (c .loop-group .inv) (w .if-ones-fewest .taken) (sym (w .if-meets-all .ensures tt)))
@@ -33,4 +33,4 @@ loop-group-again c =
 pub returns : need.returns
 returns c =
     let d = c .args .self .now in
-    found-done (d .size) (sets-of d) (wiring d (c .pre)) (c .loop-group .group) (c .loop-group .best) (c .loop-group .fewest) (omega (arith, c .everyone-all .ensures)) (c .loop-group .inv)
+    found-done (d .size) (sets-of d) (wiring d (c .pre)) (c .loop-group .group) (c .loop-group .best) (c .loop-group .fewest) (omega (arith, c .everyone-all .ensures .yard (d .high))) (c .loop-group .inv)
