@@ -37,13 +37,13 @@ within-decides n a b = decides-below-and (λ i. not (has a i) || has b i) (λ i.
 pub meets-decides : (n a b : ℕ) → Decides (meets n a b) (Meets n a b)
 meets-decides n a b =
     let found = decides-below-or (λ i. has a i && has b i) (λ i. (i ∈ a) × (i ∈ b)) (λ k. meets k a b)
-        (λ i. decides-and (has a i) (has b i) (has-decides a i) (has-decides b i)) refl (λ _. refl) n in
+    (λ i. decides-and (has a i) (has b i) (has-decides a i) (has-decides b i)) refl (λ _. refl) n in
     decides-like (meets n a b) (λ (i, h, (x, y)). (i, h, x, y)) (λ (i, h, x, y). (i, h, (x, y))) found
 
 pub shares-decides : (n a b c : ℕ) → Decides (shares n a b c) (Shares n a b c)
 shares-decides n a b c =
     let found = decides-below-or (λ i. has a i && (has b i && has c i)) (λ i. (i ∈ a) × ((i ∈ b) × (i ∈ c))) (λ k. shares k a b c)
-        (λ i. decides-and (has a i) (has b i && has c i) (has-decides a i) (decides-and (has b i) (has c i) (has-decides b i) (has-decides c i))) refl (λ _. refl) n in
+    (λ i. decides-and (has a i) (has b i && has c i) (has-decides a i) (decides-and (has b i) (has c i) (has-decides b i) (has-decides c i))) refl (λ _. refl) n in
     decides-like (shares n a b c) (λ (i, h, (x, (y, z))). (i, h, x, y, z)) (λ (i, h, x, y, z). (i, h, (x, (y, z)))) found
 
 -- ---- the bits of halves
@@ -191,7 +191,7 @@ pub same-group : (n a b : ℕ) → a < 2 ^ n → b < 2 ^ n → Within n a b → 
 same-group zero a b la lb p q = omega arith
 same-group (suc n) a b la lb p q =
     let half : a / 2 ≡ b / 2 = same-group n (a / 2) (b / 2) (half-below n a la) (half-below n b lb)
-        (λ i k m. in-half i b (p (suc i) (suc-le-suc k) (half-in i a m))) (λ i k m. in-half i a (q (suc i) (suc-le-suc k) (half-in i b m))) in
+    (λ i k m. in-half i b (p (suc i) (suc-le-suc k) (half-in i a m))) (λ i k m. in-half i a (q (suc i) (suc-le-suc k) (half-in i b m))) in
     elim (cases-eq (a % 2) 1) [
       | inl e ↦ let f = in-odd b (p 0 (omega arith) (odd-in a e)) in omega arith
       | inr ne ↦ elim (cases-eq (b % 2) 1) [

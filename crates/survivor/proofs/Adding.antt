@@ -80,8 +80,7 @@ module _ (n s : ℕ) where
       → Place xs p × Ordered n (at-place xs p) s × ((q : ℕ) → Place xs q → q < p → Ordered n (at-place xs q) s → ⊥)
   first-ordered xs p e =
       let (i, z, l, t, f) = found 1 xs p e in
-      let y : p - 1 ≡ i = omega arith in
-      (
+      let y : p - 1 ≡ i = omega arith in (
         (omega arith, omega arith),
         rw y (comparable-decides n (getD xs i 0) s .0 t),
         λ q (low, high) k. unordered-at xs (q - 1) (f (q - 1) (omega arith)),

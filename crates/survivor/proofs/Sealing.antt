@@ -96,9 +96,12 @@ module _ (n : ℕ) (sets : List ℕ) where
 
   module _ (p q r : ℕ) (w : None-shared n sets p q r) where
     pub none-refused : By-threes false
-    none-refused some = (λ e. absurd (false≢true e), λ f.
-        let (i, h, x, y, z) = f (p - 1) (q - 1) (r - 1) (omega (arith, w .places .0)) (omega (arith, w .places .1)) (omega (arith, w .places .2)) in
-        absurd (w .none i h x y z))
+    none-refused some = (
+      λ e. absurd (false≢true e),
+      λ f.
+          let (i, h, x, y, z) = f (p - 1) (q - 1) (r - 1) (omega (arith, w .places .0)) (omega (arith, w .places .1)) (omega (arith, w .places .2)) in
+          absurd (w .none i h x y z),
+    )
 
     pub sealing-none : Some 14 ≡ sealing n sets
     sealing-none =
