@@ -72,11 +72,17 @@ pub fn adding(rt: &LibcRuntime) -> Result<(), AnyError> {
     let Ok(mut four) = Draft::new(4) else {
         return Err("a yard of four".into());
     };
-    println!(rt, "n 4: an empty set, bit 4, a subset, a superset, an equal set")?;
+    println!(
+        rt,
+        "n 4: an empty set, bit 4, a subset, a superset, an equal set"
+    )?;
     for set in [0, 16, 0b0110, 0b1011, 0b0010, 0b1110, 0b1011] {
         add(rt, &mut four, set)?;
     }
-    println!(rt, "n 16: 64 pairs, then a 65th set; emptiness comes before fullness, and fullness before order")?;
+    println!(
+        rt,
+        "n 16: 64 pairs, then a 65th set; emptiness comes before fullness, and fullness before order"
+    )?;
     let Ok(mut full) = Draft::new(16) else {
         return Err("a yard of sixteen".into());
     };

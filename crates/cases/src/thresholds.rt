@@ -9,7 +9,10 @@ fn make(rt: &LibcRuntime, n: u32, t: u32) -> Result<(), AnyError> {
         Ok(yard) => {
             let all = 0xffff;
             let enough = yard.enough(all);
-            print!(rt, "threshold n {n}, t {t}: stands, all 16 bits enough {enough}, leads")?;
+            print!(
+                rt,
+                "threshold n {n}, t {t}: stands, all 16 bits enough {enough}, leads"
+            )?;
             for place in 0..17 {
                 if let Some(lead) = yard.lead(place) {
                     print!(rt, " {lead}")?;
@@ -27,7 +30,16 @@ fn make(rt: &LibcRuntime, n: u32, t: u32) -> Result<(), AnyError> {
 
 /// Fault numbers that a yard can have, and some that it cannot.
 pub fn making(rt: &LibcRuntime) -> Result<(), AnyError> {
-    for (n, t) in [(4, 1), (3, 1), (16, 5), (16, 6), (1, 0), (0, 0), (17, 0), (4, u32::MAX)] {
+    for (n, t) in [
+        (4, 1),
+        (3, 1),
+        (16, 5),
+        (16, 6),
+        (1, 0),
+        (0, 0),
+        (17, 0),
+        (4, u32::MAX),
+    ] {
         make(rt, n, t)?;
     }
     Ok(())

@@ -102,7 +102,10 @@ fn seal(rt: &LibcRuntime, n: u32, sets: &[Group]) -> Result<(), AnyError> {
     match draft.seal(&mut table) {
         Ok(()) => show_leads(rt, &table),
         Err(DraftRefusal::NoneShared(p, q, r)) => {
-            println!(rt, "Refused with 14: sets {p}, {q} and {r} have no controller in common.")?;
+            println!(
+                rt,
+                "Refused with 14: sets {p}, {q} and {r} have no controller in common."
+            )?;
             Ok(())
         }
         Err(refusal) => {

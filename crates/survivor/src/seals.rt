@@ -129,11 +129,11 @@ impl Table {
         }
     }
 
-    /// The draft that was sealed.
-    pub fn draft(&self) -> &Draft
-        ensures { λ r. ⌜ now r ≡ draft-of (now (self .entry)) ⌝ }
+    /// The sets, in the order of their places.
+    pub fn sets(&self) -> &[Group]
+        ensures { λ r. ⌜ now r ≡ sets-of (draft-of (now (self .entry))) ⌝ }
     {
-        &self.draft
+        self.draft.sets()
     }
 
     /// The leads, by rising controller number.
@@ -152,7 +152,7 @@ pub impl Structure for Table as TableStructure {
     }
 
     fn enough(&self, group: Group) -> bool {
-        for set in self.draft.sets() {
+        for set in self.sets() {
             if contains(group, *set) {
                 return true;
             }
