@@ -1,9 +1,12 @@
 ghost use mathlib.Core.Path.{_≡_};
 ghost use mathlib.Core.List.{[], _∷_, _++_};
 ghost use Prim.Native.Nat.{ℕ, _<_, _^_};
+ghost use lib.Dec.{leb};
+ghost use lib.ListN.{length};
 ghost use Rattle.std.specs.declared.result.Result.the-variants.{Ok, Err};
 ghost use Rattle.survivor.specs.Drafts.{size-of, sets-of, making, adding, misplaced, comparable, first-comparable, Addable, AgainstMaking, AgainstAdding};
 ghost use Rattle.survivor.specs.Refusals.{said};
+ghost use Rattle.survivor.specs.Sets.{Inside};
 use crate::refusals::DraftRefusal;
 use crate::tables::Draft;
 use structure::Group;
@@ -14,6 +17,18 @@ fn comparable(a: Group, b: Group) -> bool
     ensures { λ r. ⌜ ((n : ℕ) → a < 2 ^ n → b < 2 ^ n → r ≡ comparable n a b) ⌝ }
 {
     contains(b, a) || contains(a, b)
+}
+
+/// The lowest place, from 1, of a set that contains, equals or lies within this one.
+fn first_comparable(sets: &[Group], set: Group) -> Option<usize>
+    ensures { λ r. ⌜ ((n : ℕ) → Inside n (now (sets .entry)) → set < 2 ^ n → r ≡ first-comparable n 1 (now (sets .entry)) set) ⌝ }
+{
+    for (i, old) in sets.iter().enumerate() {
+        if comparable(*old, set) {
+            return Some(i + 1);
+        }
+    }
+    None
 }
 
 impl Draft {
@@ -53,17 +68,11 @@ impl Draft {
         set == 0 || u32::from(set) >> self.size != 0
     }
 
-    /// The lowest place of a set that contains, equals or lies within this one.
-    fn first_comparable(&self, set: Group) -> Option<usize>
-        requires { ⌜ set < 2 ^ size-of (now self) ⌝ }
-        ensures { λ r. ⌜ r ≡ first-comparable (size-of (now (self .entry))) 1 (sets-of (now (self .entry))) set ⌝ }
+    /// Whether there is no room for another set.
+    fn is_full(&self) -> bool
+        ensures { λ r. ⌜ r ≡ leb 64 (length (sets-of (now (self .entry)))) ⌝ }
     {
-        for (i, old) in self.sets().iter().enumerate() {
-            if comparable(*old, set) {
-                return Some(i + 1);
-            }
-        }
-        None
+        self.count >= 64
     }
 
     /// Takes a set into the draft, at the next place. A refused one leaves the draft as it was.
@@ -75,10 +84,10 @@ impl Draft {
         if self.misplaced(set) {
             return Err(DraftRefusal::OutsideYard);
         }
-        if self.count == 64 {
+        if self.is_full() {
             return Err(DraftRefusal::Full);
         }
-        if let Some(place) = self.first_comparable(set) {
+        if let Some(place) = first_comparable(self.sets(), set) {
             return Err(DraftRefusal::Comparable(place));
         }
         self.sets[self.count] = set;
