@@ -1,56 +1,62 @@
--- Worked cases, as one list for each question, and what the definitions yield for them.
+-- Worked cases, as one list, and that the definitions yield them.
 use Prim.Native.Nat.{ℕ}
 use mathlib.Core.Path.{_≡_}
-use mathlib.Core.List.{List, [], _∷_, map}
+use mathlib.Core.List.{List, [], _∷_}
 use Rattle.std.specs.declared.option.Option.{Option}
 use Rattle.std.specs.declared.option.Option.the-variants.{Some, None}
 use Rattle.cores.specs.Leads.{table}
+use Rattle.survivor.specs.Drafts.{adding}
 use Rattle.survivor.specs.Seals.{sealing}
 use Rattle.threshold.specs.Thresholds.{making, asking}
 
--- ---- sealing: the number of controllers, the sets, and the leads or the number of the refusal
+-- what sealing comes to: the leads, or the number of the refusal
 pub data Sealing : Type 0 where
   leads : List ℕ → Sealing
   refused : ℕ → Sealing
 
-pub record Draft-case : Type 0 where
-  pub n : ℕ
-  pub sets : List ℕ
-  pub gives : Sealing
+pub data Case : Type 0 where
+  -- a draft of n controllers with these sets is sealed
+  seals : (n : ℕ) (sets : List ℕ) → Sealing → Case
+  -- a set is added to such a draft: the number and the values of its refusal, or nothing
+  adds : (n : ℕ) (sets : List ℕ) (set : ℕ) → List ℕ → Case
+  -- a threshold structure of n and t is made: the number of its refusal, or nothing
+  makes : (n t : ℕ) → List ℕ → Case
+  -- the greatest fault number of n is asked for: the number of the refusal, or nothing
+  asks : (n : ℕ) → List ℕ → Case
 
-abbrev pub drafts : List Draft-case
-drafts =
-    record { n = 4; sets = 7 ∷ 11 ∷ 13 ∷ 14 ∷ []; gives = leads (0 ∷ 1 ∷ []) }
-    ∷ record { n = 1; sets = 1 ∷ []; gives = leads (0 ∷ []) }
-    ∷ record { n = 6; sets = 56 ∷ 55 ∷ 47 ∷ 31 ∷ []; gives = leads (0 ∷ 3 ∷ []) }
-    ∷ record { n = 3; sets = 3 ∷ 5 ∷ 6 ∷ []; gives = refused 14 }
-    ∷ record { n = 2; sets = 1 ∷ 2 ∷ []; gives = refused 14 }
-    ∷ record { n = 5; sets = []; gives = refused 13 }
+abbrev pub cases : List Case
+cases =
+    seals 4 (7 ∷ 11 ∷ 13 ∷ 14 ∷ []) (leads (0 ∷ 1 ∷ []))
+    ∷ seals 1 (1 ∷ []) (leads (0 ∷ []))
+    ∷ seals 6 (56 ∷ 55 ∷ 47 ∷ 31 ∷ []) (leads (0 ∷ 3 ∷ []))
+    ∷ seals 3 (3 ∷ 5 ∷ 6 ∷ []) (refused 14)
+    ∷ seals 2 (1 ∷ 2 ∷ []) (refused 14)
+    ∷ seals 5 [] (refused 13)
+    ∷ adds 4 [] 7 []
+    ∷ adds 4 [] 0 (2 ∷ [])
+    ∷ adds 4 [] 16 (2 ∷ [])
+    ∷ adds 4 (6 ∷ 11 ∷ []) 2 (12 ∷ 1 ∷ [])
+    ∷ adds 4 (6 ∷ 11 ∷ []) 11 (12 ∷ 2 ∷ [])
+    ∷ makes 4 1 []
+    ∷ makes 3 1 (5 ∷ [])
+    ∷ makes 16 5 []
+    ∷ makes 16 6 (5 ∷ [])
+    ∷ makes 17 0 (1 ∷ [])
+    ∷ asks 16 []
+    ∷ asks 0 (1 ∷ [])
     ∷ []
 
 abbrev pub sealed-or : Option ℕ → List ℕ → Sealing
 sealed-or None ks = leads ks
 sealed-or (Some k) ks = refused k
 
-abbrev pub yielded : Draft-case → Sealing
-yielded c = sealed-or (sealing (c .n) (c .sets)) (table (c .n) (c .sets) .leads)
+-- the definitions yield what the case says
+abbrev pub Yields : Case → Type 0
+Yields (seals n sets gives) = sealed-or (sealing n sets) (table n sets .leads) ≡ gives
+Yields (adds n sets set gives) = adding n sets set ≡ gives
+Yields (makes n t gives) = making n t ≡ gives
+Yields (asks n gives) = asking n ≡ gives
 
--- ---- the threshold structure: n and t, and the number of the refusal, if any
-pub record Threshold-case : Type 0 where
-  pub n : ℕ
-  pub t : ℕ
-  pub gives : List ℕ
-
-abbrev pub thresholds : List Threshold-case
-thresholds =
-    record { n = 4; t = 1; gives = [] }
-    ∷ record { n = 3; t = 1; gives = 5 ∷ [] }
-    ∷ record { n = 16; t = 5; gives = [] }
-    ∷ record { n = 16; t = 6; gives = 5 ∷ [] }
-    ∷ record { n = 0; t = 0; gives = 1 ∷ [] }
-    ∷ record { n = 17; t = 0; gives = 1 ∷ [] }
-    ∷ []
-
--- the definitions yield what the lists say
-abbrev pub All-yielded : Type 0
-All-yielded = (map yielded drafts ≡ map (λ c. c .gives) drafts) × (map (λ c. making (c .n) (c .t)) thresholds ≡ map (λ c. c .gives) thresholds)
+abbrev pub Yields-all : List Case → Type 0
+Yields-all [] = Unit
+Yields-all (c ∷ cs) = Yields c × Yields-all cs

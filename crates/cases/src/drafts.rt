@@ -1,8 +1,10 @@
 use std::error::AnyError;
 use structure::Group;
+use structure::Structure;
 use survivor::Draft;
 use survivor::DraftRefusal;
 use survivor::Table;
+use survivor::TableStructure;
 
 /// Why a call was refused, as its number and its values.
 fn show_refusal(rt: &LibcRuntime, refusal: DraftRefusal) -> Result<(), AnyError> {
@@ -53,6 +55,33 @@ pub fn sealing(rt: &LibcRuntime) -> Result<(), AnyError> {
     seal(rt, 0, &[])?;
     seal(rt, 16, &[65535])?;
     seal(rt, 17, &[])
+}
+
+/// Groups of the yard of six that are enough, and some that are not: three of one cabinet weigh as one.
+pub fn enough(rt: &LibcRuntime) -> Result<(), AnyError> {
+    let Ok(mut draft) = Draft::new(6) else {
+        return Err("a yard of six".into());
+    };
+    for set in [56, 55, 47, 31] {
+        let _ = draft.add(set);
+    }
+    let mut table = Table::new();
+    let _ = draft.seal(&mut table);
+    for group in [
+        0b111000,
+        0b000111,
+        0b011111,
+        0b001111,
+        0b1_111000,
+        0b1_000111,
+    ] {
+        let enough = table.enough(group);
+        println!(
+            rt,
+            "table n 6, sets 56 55 47 31, group {group}: enough {enough}"
+        )?;
+    }
+    Ok(())
 }
 
 fn add(rt: &LibcRuntime, draft: &mut Draft, set: Group) -> Result<(), AnyError> {

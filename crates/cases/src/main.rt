@@ -14,7 +14,11 @@ fn run(rt: &LibcRuntime) -> Result<(), AnyError> {
     println!(rt, "")?;
     drafts::adding(rt)?;
     println!(rt, "")?;
+    drafts::enough(rt)?;
+    println!(rt, "")?;
     thresholds::making(rt)?;
+    println!(rt, "")?;
+    thresholds::enough(rt)?;
     println!(rt, "")?;
     thresholds::greatest(rt)
 }

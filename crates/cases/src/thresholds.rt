@@ -7,12 +7,7 @@ use threshold::greatest_faults;
 fn make(rt: &LibcRuntime, n: u32, t: u32) -> Result<(), AnyError> {
     match Threshold::new(n, t) {
         Ok(yard) => {
-            let all = 0xffff;
-            let enough = yard.enough(all);
-            print!(
-                rt,
-                "threshold n {n}, t {t}: stands, all 16 bits enough {enough}, leads"
-            )?;
+            print!(rt, "threshold n {n}, t {t}: stands, leads")?;
             for place in 0..17 {
                 if let Some(lead) = yard.lead(place) {
                     print!(rt, " {lead}")?;
@@ -41,6 +36,18 @@ pub fn making(rt: &LibcRuntime) -> Result<(), AnyError> {
         (4, u32::MAX),
     ] {
         make(rt, n, t)?;
+    }
+    Ok(())
+}
+
+/// Groups of a threshold structure of 4 and 1 that are enough, and some that are not: two bits lie outside the yard.
+pub fn enough(rt: &LibcRuntime) -> Result<(), AnyError> {
+    let Ok(yard) = Threshold::new(4, 1) else {
+        return Err("four controllers, one of them faulty".into());
+    };
+    for group in [0b1111, 0b0111, 0b1101, 0b0101, 0b11_0101, 0b11_0111, 0] {
+        let enough = yard.enough(group);
+        println!(rt, "threshold n 4, t 1, group {group}: enough {enough}")?;
     }
     Ok(())
 }

@@ -11,10 +11,11 @@ use Rattle.std.specs.declared.option.Option.{Option}
 use Rattle.std.specs.declared.option.Option.the-variants.{Some, None}
 use Rattle.structure.specs.Groups.{within, meets, members, count}
 use Rattle.structure.specs.Meanings.{Meaning}
-use Rattle.cores.specs.Sharing.{Meets-all, Core, every}
+use Rattle.cores.specs.Sharing.{None-empty, Inside, Meets-all, Core, every}
 
 -- The core that leads: of least size, and among the cores of that size the one with the least number.
--- Every group that meets all sets contains a core, so it has the least size, and the least number, among those groups too.
+-- A group of the yard that meets all sets and has the least size is itself a core. So both fields may speak of all groups that
+-- meet all sets, and the second only of those of that size.
 pub record Leading (n : ℕ) (sets : List ℕ) (g : ℕ) : Type 0 where
   pub core : Core n sets g
   pub smallest : (h : ℕ) → Meets-all n sets h → count n g ≤ count n h
@@ -34,11 +35,12 @@ abbrev pub best-below : ℕ → List ℕ → ℕ → Option ℕ
 best-below n sets zero = None
 best-below n sets (suc k) = better n sets k (best-below n sets k)
 
+-- the group, or the empty one
 abbrev pub or-empty : Option ℕ → ℕ
 or-empty None = 0
 or-empty (Some g) = g
 
--- the best of all groups of the yard; it is Leading
+-- the best of all groups of the yard, or the empty group if none meets all sets; it is Leading of every Wiring
 abbrev pub leading-core : ℕ → List ℕ → ℕ
 leading-core n sets = or-empty (best-below n sets (2 ^ n))
 
@@ -61,5 +63,5 @@ pub record Wiring (n : ℕ) (sets : List ℕ) : Type 0 where
   pub low : 1 ≤ n
   pub high : n ≤ 16
   pub some : 0 < length sets
-  pub peopled : (j : ℕ) → j < length sets → 0 < getD sets j 0
-  pub inside : (j : ℕ) → j < length sets → getD sets j 0 < 2 ^ n
+  pub peopled : None-empty sets
+  pub inside : Inside n sets

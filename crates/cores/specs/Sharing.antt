@@ -8,6 +8,14 @@ use mathlib.Core.Logic.{_⊎_, _↔_}
 use lib.ListN.{length, getD}
 use Rattle.structure.specs.Groups.{_∈_, Within, Meets, Shares, shares}
 
+-- no set is empty
+abbrev pub None-empty : List ℕ → Type 0
+None-empty sets = (j : ℕ) → j < length sets → 0 < getD sets j 0
+
+-- no set names a controller outside a yard of n
+abbrev pub Inside : ℕ → List ℕ → Type 0
+Inside n sets = (j : ℕ) → j < length sets → getD sets j 0 < 2 ^ n
+
 -- every three sets, one counting twice or three times if need be, share a controller
 abbrev pub Threes-share : ℕ → List ℕ → Type 0
 Threes-share n sets =

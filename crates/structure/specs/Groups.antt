@@ -3,16 +3,29 @@ use Prim.Native.Nat.{ℕ, zero, suc, _+_, _-_, _/_, _%_, _^_, _<_}
 use mathlib.Core.Path.{_≡_}
 use mathlib.Core.List.{List, [], _∷_, _++_}
 use mathlib.Core.Bool.{Bool, true, false, cond, not, _&&_, _||_}
-use lib.Dec.{eqb}
+use mathlib.Core.Logic.{_⊎_}
+use lib.Dec.{eqb, leb}
+
+-- bit i of a number
+abbrev pub bit : ℕ → ℕ → ℕ
+bit g i = g / 2 ^ i % 2
 
 -- A group is a number, and controller i belongs to it where bit i is 1: the one definition of membership.
 infix 20 _∈_
 abbrev pub _∈_ : ℕ → ℕ → Type 0
-i ∈ g = g / 2 ^ i % 2 ≡ 1
+i ∈ g = bit g i ≡ 1
 
 -- the same as a test
 abbrev pub has : ℕ → ℕ → Bool
-has g i = eqb (g / 2 ^ i % 2) 1
+has g i = eqb (bit g i) 1
+
+-- a yard has 1 to 16 controllers
+abbrev pub yard-size : ℕ → Bool
+yard-size n = leb 1 n && leb n 16
+
+-- in words: n is not the size of a yard
+abbrev pub No-yard-size : ℕ → Type 0
+No-yard-size n = (n ≡ 0) ⊎ (16 < n)
 
 -- the group of all controllers of a yard of n
 abbrev pub everyone : ℕ → ℕ
@@ -53,4 +66,4 @@ members (suc i) g = cond (has g i) (members i g ++ i ∷ []) (members i g)
 -- how many controllers, of the first n, belong to a group
 abbrev pub count : ℕ → ℕ → ℕ
 count zero g = 0
-count (suc i) g = count i g + g / 2 ^ i % 2
+count (suc i) g = count i g + bit g i

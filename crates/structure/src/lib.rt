@@ -1,13 +1,23 @@
-//! Which groups of controllers are enough, and who leads: what the engine may know of a yard's wiring.
+//! A yard is a set of 1 to 16 controllers that are to agree. A structure says which groups of them are enough to decide, and
+//! which controllers lead, one after another, the phases in which they agree.
 
 ghost use mathlib.Core.Path.{_≡_};
+ghost use mathlib.Core.Bool.{false};
 ghost use Prim.Native.Nat.{ℕ, _<_, _≤_, _^_};
 ghost use Rattle.std.specs.Finite.{nth};
-ghost use Rattle.structure.specs.Groups.{has, within, everyone};
+ghost use Rattle.structure.specs.Groups.{has, within, everyone, yard-size, No-yard-size};
 ghost use Rattle.structure.specs.Meanings.{Meaning, Laws};
 
 /// A group of controllers: bit i stands for controller i.
 pub type Group = u16;
+
+/// Whether a yard can have `n` controllers.
+pub fn is_yard_size(n: u32) -> bool
+    ensures value { λ r. ⌜ r ≡ yard-size n ⌝ }
+    ensures refused { λ r. ⌜ (r ≡ false → No-yard-size n) ⌝ }
+{
+    1 <= n && n <= 16
+}
 
 /// Whether a controller belongs to a group.
 pub fn belongs(controller: u8, group: Group) -> bool

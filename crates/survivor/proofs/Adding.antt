@@ -17,10 +17,11 @@ use Rattle.std.proofs.shelf.Tests.{cases-eq, cases-lt, both-ways, or-cases, or-
 use Rattle.std.proofs.shelf.Ways.{decides-or}
 use Rattle.structure.specs.Groups.{_∈_, Within, within}
 use Rattle.structure.proofs.Bits.{none-in, some-in, in-below, high-in, within-decides}
-use Rattle.survivor.specs.Drafts.{Place, at-place, misplaced, comparable, first-comparable, placed, adding, Proper, Ordered}
-use Rattle.survivor.specs.Sets.{Peopled, Inside, Unordered}
+use Rattle.survivor.specs.Drafts.{Place, at-place, misplaced, comparable, first-comparable, refused-at, adding, Well-placed, Are-comparable}
+use Rattle.cores.specs.Sharing.{None-empty, Inside}
+use Rattle.survivor.specs.Sets.{Incomparable}
 
-pub comparable-decides : (n a b : ℕ) → Decides (comparable n a b) (Ordered n a b)
+pub comparable-decides : (n a b : ℕ) → Decides (comparable n a b) (Are-comparable n a b)
 comparable-decides n a b = decides-or (within n a b) (within n b a) (within-decides n a b) (within-decides n b a)
 
 -- ---- the loop: what is left of the list gives the answer
@@ -68,16 +69,16 @@ module _ (n s : ℕ) where
           before i f zero l = c
           before i f (suc k) l = f k (omega arith)
 
-  unordered-at : (xs : List ℕ) (j : ℕ) → comparable n (getD xs j 0) s ≡ false → Ordered n (getD xs j 0) s → ⊥
+  unordered-at : (xs : List ℕ) (j : ℕ) → comparable n (getD xs j 0) s ≡ false → Are-comparable n (getD xs j 0) s → ⊥
   unordered-at xs j f o = both-ways (comparable n (getD xs j 0) s) f (comparable-decides n (getD xs j 0) s .1 o)
 
   -- none is comparable
-  pub none-ordered : (xs : List ℕ) → first-comparable n 1 xs s ≡ None → (p : ℕ) → Place xs p → Ordered n (at-place xs p) s → ⊥
+  pub none-ordered : (xs : List ℕ) → first-comparable n 1 xs s ≡ None → (p : ℕ) → Place xs p → Are-comparable n (at-place xs p) s → ⊥
   none-ordered xs e p (low, high) = unordered-at xs (p - 1) (clear 1 xs e (p - 1) (omega arith))
 
   -- the one at p is, and none at a lower place
   pub first-ordered : (xs : List ℕ) (p : ℕ) → first-comparable n 1 xs s ≡ Some p
-      → Place xs p × Ordered n (at-place xs p) s × ((q : ℕ) → Place xs q → q < p → Ordered n (at-place xs q) s → ⊥)
+      → Place xs p × Are-comparable n (at-place xs p) s × ((q : ℕ) → Place xs q → q < p → Are-comparable n (at-place xs q) s → ⊥)
   first-ordered xs p e =
       let (i, z, l, t, f) = found 1 xs p e in
       let y : p - 1 ≡ i = omega arith in (
@@ -110,7 +111,7 @@ placed-below n s e =
     let (some, inside) = or-parts (eqb s 0) (leb (2 ^ n) s) e in
     (elim (cases-eq s 0) [ inl z ↦ absurd (eqb-false s 0 some z) | inr ne ↦ omega arith ], leb-false (2 ^ n) s inside)
 
-pub placed-proper : (n s : ℕ) → misplaced n s ≡ false → Proper n s
+pub placed-proper : (n s : ℕ) → misplaced n s ≡ false → Well-placed n s
 placed-proper n s e =
     let (some, below) = placed-below n s e in
     let (i, _, m) = some-in n s below some in
@@ -124,7 +125,7 @@ module _ (n : ℕ) (sets : List ℕ) (s : ℕ) where
   pub adding-full : misplaced n s ≡ false → length sets ≡ 64 → 11 ∷ [] ≡ adding n sets s
   adding-full m e = let f = le-leb 64 (length sets) (omega arith) in simp (m, f)
 
-  pub adding-placed : (o : Option ℕ) → misplaced n s ≡ false → length sets < 64 → first-comparable n 1 sets s ≡ o → placed o ≡ adding n sets s
+  pub adding-placed : (o : Option ℕ) → misplaced n s ≡ false → length sets < 64 → first-comparable n 1 sets s ≡ o → refused-at o ≡ adding n sets s
   adding-placed o m l e = let f = lt-leb 64 (length sets) l in simp (m, f, e)
 
 -- ---- one set more
@@ -141,7 +142,7 @@ module _ (sets : List ℕ) (count s : ℕ) (room : count < length sets) where
     | inr ne ↦ let l : j < length xs = omega arith in rw (getD-append-left xs (s ∷ []) 0 j l) (all j l)
   ]
 
-  pub peopled-more : Peopled xs → 0 < s → Peopled (take (count + 1) (set sets count s))
+  pub peopled-more : None-empty xs → 0 < s → None-empty (take (count + 1) (set sets count s))
   peopled-more h p = rw sets-more (each (λ x. 0 < x) h p)
 
   pub inside-more : (n : ℕ) → Inside n xs → s < 2 ^ n → Inside n (take (count + 1) (set sets count s))
@@ -157,10 +158,10 @@ module _ (sets : List ℕ) (count s : ℕ) (room : count < length sets) where
     | inr ne ↦ let l : j < length xs = omega (arith, length-push xs s) in inl (l, getD-append-left xs (s ∷ []) 0 j l)
   ]
 
-  pub unordered-more : (n : ℕ) → Unordered n xs → first-comparable n 1 xs s ≡ None → Unordered n (take (count + 1) (set sets count s))
+  pub unordered-more : (n : ℕ) → Incomparable n xs → first-comparable n 1 xs s ≡ None → Incomparable n (take (count + 1) (set sets count s))
   unordered-more n old e = rw sets-more (λ j k (lj, lk, ne) w. go j k ne w (which j lj) (which k lk))
     where
-      apart : (j : ℕ) → j < length xs → Ordered n (getD xs j 0) s → ⊥
+      apart : (j : ℕ) → j < length xs → Are-comparable n (getD xs j 0) s → ⊥
       apart j l = unordered-at n s xs j (clear n s 1 xs e j l)
 
       go : (j k : ℕ) → (j ≡ k → ⊥) → Within n (at j) (at k) → ((j < length xs) × (at j ≡ getD xs j 0)) ⊎ ((j ≡ length xs) × (at j ≡ s))

@@ -23,7 +23,7 @@ use Rattle.cores.proofs.Wordings.{wordings-agree}
 use Rattle.survivor.specs.declared.tables.Draft.{Draft}
 use Rattle.survivor.specs.Drafts.{size-of, sets-of}
 use Rattle.survivor.specs.Seals.{sealing, None-shared}
-use Rattle.survivor.specs.Sets.{Inside, Sharing}
+use Rattle.cores.specs.Sharing.{Inside}
 
 -- ---- a group is enough, or is not
 module _ (n : ℕ) (sets xs : List ℕ) (g : ℕ) where
@@ -69,14 +69,14 @@ module _ (d : Draft) (xs : List ℕ) (e : xs ≡ sets-of d) where
       })
 
 -- a truncated fact that three sets share a controller gives the controller: it can be looked for
-pub sharing-threes : (n : ℕ) (sets : List ℕ) → Sharing n sets → Threes-share n sets
+pub sharing-threes : (n : ℕ) (sets : List ℕ) → ∥ Threes-share n sets ∥₁ → Threes-share n sets
 sharing-threes n sets f a b c la lb lc = elim (shares? n (getD sets a 0) (getD sets b 0) (getD sets c 0)) [
   | inl w ↦ w
-  | inr none ↦ absurd (∥∥₁-elim (f a b c (la, lb, lc)) (λ x y. absurd x) (λ (i, h, x, y, z). none i h x y z))
+  | inr none ↦ absurd (∥∥₁-elim f (λ x y. absurd x) (λ t. let (i, h, x, y, z) = t a b c la lb lc in none i h x y z))
 ]
 
-pub threes-sharing : (n : ℕ) (sets : List ℕ) → Threes-share n sets → Sharing n sets
-threes-sharing n sets f a b c (la, lb, lc) = ∣ f a b c la lb lc ∣₁
+pub threes-sharing : (n : ℕ) (sets : List ℕ) → Threes-share n sets → ∥ Threes-share n sets ∥₁
+threes-sharing n sets f = ∣ f ∣₁
 
 -- ---- what sealing answers
 module _ (n : ℕ) (sets : List ℕ) where

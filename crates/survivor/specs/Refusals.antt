@@ -4,11 +4,11 @@ use mathlib.Core.List.{List, [], _∷_}
 use Rattle.std.specs.declared.result.Result.{Result}
 use Rattle.std.specs.declared.result.Result.the-variants.{Ok, Err}
 use Rattle.survivor.specs.declared.refusals.DraftRefusal.{DraftRefusal}
-use Rattle.survivor.specs.declared.refusals.DraftRefusal.the-variants.{YardSize, OutsideYard, Full, Comparable, NoSet, NoneShared}
+use Rattle.survivor.specs.declared.refusals.DraftRefusal.the-variants.{YardSize, EmptyOrOutside, Full, Comparable, NoSet, NoneShared}
 
 abbrev pub number : DraftRefusal → ℕ
 number YardSize = 1
-number OutsideYard = 2
+number EmptyOrOutside = 2
 number Full = 11
 number (Comparable p) = 12
 number NoSet = 13
@@ -17,7 +17,7 @@ number (NoneShared p q r) = 14
 -- the lowest place for 12, the three places for 14
 abbrev pub values : DraftRefusal → List ℕ
 values YardSize = []
-values OutsideYard = []
+values EmptyOrOutside = []
 values Full = []
 values (Comparable p) = p ∷ []
 values NoSet = []

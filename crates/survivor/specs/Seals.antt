@@ -1,4 +1,4 @@
--- Sealing: what it answers, and what the place then holds.
+-- Sealing: what it answers, and what the table then holds.
 --
 -- `n` is the number of controllers of the yard, and `sets` the sets of the draft.
 use Prim.Native.Nat.{ℕ, _<_, _≤_}
@@ -16,7 +16,7 @@ use Rattle.structure.specs.Meanings.{Meaning}
 use Rattle.cores.specs.Sharing.{Threes-share, threes-share}
 use Rattle.cores.specs.Leads.{Leading, leading-core, table}
 use Rattle.survivor.specs.declared.refusals.DraftRefusal.{DraftRefusal}
-use Rattle.survivor.specs.declared.refusals.DraftRefusal.the-variants.{YardSize, OutsideYard, Full, Comparable, NoSet, NoneShared}
+use Rattle.survivor.specs.declared.refusals.DraftRefusal.the-variants.{YardSize, EmptyOrOutside, Full, Comparable, NoSet, NoneShared}
 use Rattle.survivor.specs.declared.tables.Draft.{Draft}
 use Rattle.survivor.specs.declared.tables.Table.{Table}
 use Rattle.survivor.specs.Drafts.{size-of, sets-of, Place, at-place}
@@ -39,12 +39,12 @@ abbrev pub refused-with : {A : Type 0} → Result A DraftRefusal → Option ℕ
 refused-with (Ok a) = None
 refused-with (Err e) = Some (number e)
 
--- 13 without a set, then 14 where three sets share no controller
+-- refused with 13 without a set, then with 14 where three sets share no controller
 abbrev pub sealing : ℕ → List ℕ → Option ℕ
 sealing n sets = cond (eqb (length sets) 0) (Some 13) (cond (threes-share n sets) None (Some 14))
 
 -- The sets at the places p, q and r, which need not differ, have no controller in common.
--- Where several three have none, it is left free which of them a refusal shows.
+-- Where several triples have none, it is left free which of them a refusal shows.
 pub record None-shared (n : ℕ) (sets : List ℕ) (p q r : ℕ) : Type 0 where
   pub places : Place sets p × Place sets q × Place sets r
   pub none : (i : ℕ) → i < n → i ∈ at-place sets p → i ∈ at-place sets q → i ∈ at-place sets r → ⊥
@@ -55,15 +55,15 @@ pub record Sealable (n : ℕ) (sets : List ℕ) : Type 0 where
   pub threes : Threes-share n sets
 
 -- why it is not
-abbrev pub AgainstSealing : ℕ → List ℕ → DraftRefusal → Type 0
-AgainstSealing n sets YardSize = ⊥
-AgainstSealing n sets OutsideYard = ⊥
-AgainstSealing n sets Full = ⊥
-AgainstSealing n sets (Comparable p) = ⊥
-AgainstSealing n sets NoSet = length sets ≡ 0
-AgainstSealing n sets (NoneShared p q r) = None-shared n sets p q r
+abbrev pub Against-sealing : ℕ → List ℕ → DraftRefusal → Type 0
+Against-sealing n sets YardSize = ⊥
+Against-sealing n sets EmptyOrOutside = ⊥
+Against-sealing n sets Full = ⊥
+Against-sealing n sets (Comparable p) = ⊥
+Against-sealing n sets NoSet = length sets ≡ 0
+Against-sealing n sets (NoneShared p q r) = None-shared n sets p q r
 
--- ---- what the place holds after sealing: the draft, whole, and the controllers of its leading core by rising number
+-- ---- what the table holds after sealing: the draft, whole, and the controllers of its leading core by rising number
 pub record Sealed-from (d : Draft) (t : Table) : Type 0 where
   pub copied : draft-of t ≡ d
   pub leads : leads-of t ≡ members (size-of d) (leading-core (size-of d) (sets-of d))

@@ -4,13 +4,14 @@ ghost use Prim.Native.Nat.{ℕ, _<_, _^_};
 ghost use lib.Dec.{leb};
 ghost use lib.ListN.{length};
 ghost use Rattle.std.specs.declared.result.Result.the-variants.{Ok, Err};
-ghost use Rattle.survivor.specs.Drafts.{size-of, sets-of, making, adding, misplaced, comparable, first-comparable, Addable, AgainstMaking, AgainstAdding};
+ghost use Rattle.survivor.specs.Drafts.{size-of, sets-of, making, adding, misplaced, comparable, first-comparable, Addable, Against-making, Against-adding};
 ghost use Rattle.survivor.specs.Refusals.{said};
-ghost use Rattle.survivor.specs.Sets.{Inside};
+ghost use Rattle.cores.specs.Sharing.{Inside};
 use crate::refusals::DraftRefusal;
 use crate::tables::Draft;
 use structure::Group;
 use structure::contains;
+use structure::is_yard_size;
 
 /// Whether one of two sets contains or equals the other.
 fn comparable(a: Group, b: Group) -> bool
@@ -33,11 +34,13 @@ fn first_comparable(sets: &[Group], set: Group) -> Option<usize>
 
 impl Draft {
     /// A draft without a set, for a yard of `n` controllers.
+    ///
+    /// Refused with 1 where `n` is 0 or above 16.
     pub fn new(n: u32) -> Result<Draft, DraftRefusal>
         ensures answer { λ r. ⌜ said r ≡ making n ⌝ }
-        ensures reason { λ r. ⌜ elim r [ Ok d ↦ (size-of d ≡ n) × (sets-of d ≡ []) | Err e ↦ AgainstMaking n e ] ⌝ }
+        ensures reason { λ r. ⌜ elim r [ Ok d ↦ (size-of d ≡ n) × (sets-of d ≡ []) | Err e ↦ Against-making n e ] ⌝ }
     {
-        if n == 0 || n > 16 {
+        if !is_yard_size(n) {
             return Err(DraftRefusal::YardSize);
         }
         Ok(Draft {
@@ -75,14 +78,17 @@ impl Draft {
         self.count >= 64
     }
 
-    /// Takes a set into the draft, at the next place. A refused one leaves the draft as it was.
+    /// Takes a set into the draft, at the next place.
+    ///
+    /// Refused, in this order: 2, the set is empty or names a controller outside the yard; 11, the draft has 64 sets;
+    /// 12, the set contains, equals or lies within one of the draft. A refused set leaves the draft as it was.
     pub fn add(&mut self, set: Group) -> Result<(), DraftRefusal>
         ensures answer { λ r. ⌜ said r ≡ adding (size-of (now (self .entry))) (sets-of (now (self .entry))) set ⌝ }
-        ensures reason { λ r. ⌜ elim r [ Ok _ ↦ Addable (size-of (now (self .entry))) (sets-of (now (self .entry))) set | Err e ↦ AgainstAdding (size-of (now (self .entry))) (sets-of (now (self .entry))) set e ] ⌝ }
+        ensures reason { λ r. ⌜ elim r [ Ok _ ↦ Addable (size-of (now (self .entry))) (sets-of (now (self .entry))) set | Err e ↦ Against-adding (size-of (now (self .entry))) (sets-of (now (self .entry))) set e ] ⌝ }
         ensures after { λ r. ⌜ elim r [ Ok _ ↦ (size-of (now (self .exit)) ≡ size-of (now (self .entry))) × (sets-of (now (self .exit)) ≡ sets-of (now (self .entry)) ++ set ∷ []) | Err e ↦ now (self .exit) ≡ now (self .entry) ] ⌝ }
     {
         if self.misplaced(set) {
-            return Err(DraftRefusal::OutsideYard);
+            return Err(DraftRefusal::EmptyOrOutside);
         }
         if self.is_full() {
             return Err(DraftRefusal::Full);

@@ -7,7 +7,7 @@ pub enum DraftRefusal {
     /// 1: a yard has 1 to 16 controllers.
     YardSize,
     /// 2: the set is empty, or names a controller outside the yard.
-    OutsideYard,
+    EmptyOrOutside,
     /// 11: the draft has 64 sets.
     Full,
     /// 12: the set contains, equals or lies within the one at this place, the lowest such place.
@@ -25,7 +25,7 @@ impl DraftRefusal {
     {
         match self {
             DraftRefusal::YardSize => 1,
-            DraftRefusal::OutsideYard => 2,
+            DraftRefusal::EmptyOrOutside => 2,
             DraftRefusal::Full => 11,
             DraftRefusal::Comparable(_) => 12,
             DraftRefusal::NoSet => 13,

@@ -8,10 +8,10 @@ ghost use Rattle.std.specs.Results.{isOk};
 ghost use Rattle.std.specs.declared.option.Option.the-variants.{Some, None};
 ghost use Rattle.std.specs.declared.result.Result.the-variants.{Ok, Err};
 ghost use Rattle.structure.specs.Groups.{members};
-ghost use Rattle.cores.specs.Leads.{leading-core, meets-all};
+ghost use Rattle.cores.specs.Leads.{leading-core, meets-all, Leading};
 ghost use Rattle.cores.specs.Sharing.{Threes-share, Splits-keep-a-core, Wordings-agree};
 ghost use Rattle.survivor.specs.Drafts.{size-of, sets-of};
-ghost use Rattle.survivor.specs.Seals.{draft-of, leads-of, meaning-of, refused-with, sealing, None-shared, Sealable, AgainstSealing, Sealed-from};
+ghost use Rattle.survivor.specs.Seals.{draft-of, leads-of, meaning-of, refused-with, sealing, None-shared, Sealable, Against-sealing, Sealed-from};
 use crate::refusals::DraftRefusal;
 use crate::tables::Draft;
 use crate::tables::Table;
@@ -21,7 +21,7 @@ use structure::belongs;
 use structure::contains;
 use structure::everyone;
 
-/// The first `size` controllers' members of a group, by rising number, and how many they are.
+/// The members of a group among the first `size` controllers, by rising number, and how many there are.
 fn list_members(size: u8, group: Group) -> ([u8; 16], usize)
     requires { ⌜ size ≤ 16 ⌝ }
     ensures { λ r. ⌜ take (r .1) (r .0) ≡ members size group ⌝ ∗ ⌜ r .1 ≤ 16 ⌝ }
@@ -85,11 +85,14 @@ impl Draft {
         best
     }
 
-    /// Seals the draft into a place that the caller holds. A refused draft leaves the place as it was.
-    pub fn seal(&self, place: &mut Table) -> Result<(), DraftRefusal>
+    /// Seals the draft into a table that the caller holds, which is written whole.
+    ///
+    /// Refused, in this order: 13, the draft has no set; 14, three of its sets share no controller. A refused draft leaves
+    /// the table as it was.
+    pub fn seal(&self, table: &mut Table) -> Result<(), DraftRefusal>
         ensures answer { λ r. ⌜ refused-with r ≡ sealing (size-of (now (self .entry))) (sets-of (now (self .entry))) ⌝ }
-        ensures reason { λ r. ⌜ elim r [ Ok _ ↦ Sealable (size-of (now (self .entry))) (sets-of (now (self .entry))) | Err e ↦ AgainstSealing (size-of (now (self .entry))) (sets-of (now (self .entry))) e ] ⌝ }
-        ensures after { λ r. ⌜ elim r [ Ok _ ↦ Sealed-from (now (self .entry)) (now (place .exit)) | Err e ↦ now (place .exit) ≡ now (place .entry) ] ⌝ }
+        ensures reason { λ r. ⌜ elim r [ Ok _ ↦ Sealable (size-of (now (self .entry))) (sets-of (now (self .entry))) | Err e ↦ Against-sealing (size-of (now (self .entry))) (sets-of (now (self .entry))) e ] ⌝ }
+        ensures after { λ r. ⌜ elim r [ Ok _ ↦ Sealed-from (now (self .entry)) (now (table .exit)) | Err e ↦ now (table .exit) ≡ now (table .entry) ] ⌝ }
         ensures threes { λ r. ⌜ (0 < length (sets-of (now (self .entry))) → (isOk r ≡ true) ↔ Threes-share (size-of (now (self .entry))) (sets-of (now (self .entry)))) ⌝ }
         ensures splits { λ r. ⌜ (0 < length (sets-of (now (self .entry))) → (isOk r ≡ true) ↔ Splits-keep-a-core (size-of (now (self .entry))) (sets-of (now (self .entry)))) ⌝ }
         ensures wordings { λ _. ⌜ Wordings-agree ⌝ }
@@ -101,7 +104,7 @@ impl Draft {
             return Err(DraftRefusal::NoneShared(p, q, r));
         }
         let (leads, phases) = list_members(self.size, self.leading_core());
-        *place = Table {
+        *table = Table {
             draft: *self,
             leads,
             phases,
@@ -138,7 +141,8 @@ impl Table {
 
     /// The leads, by rising controller number.
     pub fn leads(&self) -> &[u8]
-        ensures { λ r. ⌜ now r ≡ leads-of (now (self .entry)) ⌝ }
+        ensures answer { λ r. ⌜ now r ≡ meaning-of (now (self .entry)) .leads ⌝ }
+        ensures least { λ _. ⌜ Leading (size-of (draft-of (now (self .entry)))) (sets-of (draft-of (now (self .entry)))) (leading-core (size-of (draft-of (now (self .entry)))) (sets-of (draft-of (now (self .entry))))) ⌝ }
     {
         &self.leads[0..self.phases]
     }

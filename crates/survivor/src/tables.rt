@@ -6,7 +6,9 @@ ghost use mathlib.Core.Path.{_≡_};
 ghost use Prim.Native.Nat.{_<_, _≤_};
 ghost use lib.ListN.{length, take};
 ghost use Rattle.cores.specs.Leads.{table};
-ghost use Rattle.survivor.specs.Sets.{Peopled, Inside, Unordered, Sharing};
+ghost use Rattle.cores.specs.Sharing.{Threes-share};
+ghost use Rattle.cores.specs.Sharing.{None-empty, Inside};
+ghost use Rattle.survivor.specs.Sets.{Incomparable};
 use structure::Group;
 
 /// The survivor sets of a yard as they are gathered: none contains or equals another.
@@ -18,9 +20,9 @@ pub struct Draft {
     ghost low: { 1 ≤ size },
     ghost high: { size ≤ 16 },
     ghost few: { count ≤ 64 },
-    ghost peopled: { Peopled (take count sets) },
+    ghost peopled: { None-empty (take count sets) },
     ghost inside: { Inside size (take count sets) },
-    ghost unordered: { Unordered size (take count sets) },
+    ghost unordered: { Incomparable size (take count sets) },
 }
 
 /// A sealed table: a draft with a set or more, of which every three share a controller, and its leads.
@@ -28,9 +30,11 @@ pub struct Draft {
 pub struct Table {
     pub(crate) draft: Draft,
     pub(crate) leads: [u8; 16],
+    // how many leads there are: one for each phase of a slot
     pub(crate) phases: usize,
     ghost fit: { phases ≤ 16 },
     ghost some: { 0 < length (take (draft .count) (draft .sets)) },
-    ghost sharing: { Sharing (draft .size) (take (draft .count) (draft .sets)) },
+    // truncated, since a ghost field may have one proof at most
+    ghost sharing: { ∥ Threes-share (draft .size) (take (draft .count) (draft .sets)) ∥₁ },
     ghost led: { take phases leads ≡ table (draft .size) (take (draft .count) (draft .sets)) .leads },
 }

@@ -2,10 +2,9 @@
 use Prim.Native.Nat.{ℕ, zero, suc, _+_, _-_, _*_, _<_, _≤_}
 use mathlib.Core.Path.{_≡_}
 use mathlib.Core.List.{List, [], _∷_, _++_}
-use mathlib.Core.Bool.{Bool, cond, _||_}
-use mathlib.Core.Logic.{_⊎_}
-use lib.Dec.{eqb, leb, ltb}
-use Rattle.structure.specs.Groups.{count}
+use mathlib.Core.Bool.{cond}
+use lib.Dec.{leb}
+use Rattle.structure.specs.Groups.{count, yard-size, No-yard-size}
 use Rattle.structure.specs.Meanings.{Meaning}
 use Rattle.threshold.specs.declared.thresholds.Threshold.{Threshold}
 use Rattle.threshold.specs.declared.refusals.ThresholdRefusal.{ThresholdRefusal}
@@ -29,27 +28,23 @@ threshold n t = record { size = n; enough = λ g. leb (n - t) (count n g); leads
 abbrev pub meaning-of : Threshold → Meaning
 meaning-of s = threshold (size-of s) (faults-of s)
 
--- n is 0 or above 16
-abbrev pub no-yard : ℕ → Bool
-no-yard n = eqb n 0 || ltb 16 n
-
--- making one: 1, then 5 where 3 × t is n or more
+-- making one: refused with 1 where n is no yard's size, then with 5 where 3 × t is n or more
 abbrev pub making : ℕ → ℕ → List ℕ
-making n t = cond (no-yard n) (1 ∷ []) (cond (leb n (3 * t)) (5 ∷ []) [])
+making n t = cond (yard-size n) (cond (leb n (3 * t)) (5 ∷ []) []) (1 ∷ [])
 
 -- in words: why one is not made
-abbrev pub AgainstMaking : ℕ → ℕ → ThresholdRefusal → Type 0
-AgainstMaking n t YardSize = (n ≡ 0) ⊎ (16 < n)
-AgainstMaking n t TooManyFaults = (1 ≤ n) × (n ≤ 16) × (n ≤ 3 * t)
+abbrev pub Against-making : ℕ → ℕ → ThresholdRefusal → Type 0
+Against-making n t YardSize = No-yard-size n
+Against-making n t TooManyFaults = (1 ≤ n) × (n ≤ 16) × (n ≤ 3 * t)
 
--- asking for the greatest fault number: 1
+-- asking for the greatest fault number: refused with 1 where n is no yard's size
 abbrev pub asking : ℕ → List ℕ
-asking n = cond (no-yard n) (1 ∷ []) []
+asking n = cond (yard-size n) [] (1 ∷ [])
 
 -- in words: why it is not answered
-abbrev pub AgainstAsking : ℕ → ThresholdRefusal → Type 0
-AgainstAsking n YardSize = (n ≡ 0) ⊎ (16 < n)
-AgainstAsking n TooManyFaults = ⊥
+abbrev pub Against-asking : ℕ → ThresholdRefusal → Type 0
+Against-asking n YardSize = No-yard-size n
+Against-asking n TooManyFaults = ⊥
 
 -- t is the greatest fault number of a yard of n: n exceeds three times it, and not three times the next
 pub record Greatest (n t : ℕ) : Type 0 where

@@ -2,20 +2,23 @@ ghost use mathlib.Core.Path.{_≡_};
 ghost use Prim.Native.Nat.{_-_, _/_};
 ghost use Rattle.std.specs.declared.result.Result.the-variants.{Ok, Err};
 ghost use Rattle.threshold.specs.Refusals.{said};
-ghost use Rattle.threshold.specs.Thresholds.{size-of, faults-of, meaning-of, making, AgainstMaking, asking, AgainstAsking, Greatest};
+ghost use Rattle.threshold.specs.Thresholds.{size-of, faults-of, meaning-of, making, Against-making, asking, Against-asking, Greatest};
 use crate::refusals::ThresholdRefusal;
 use crate::thresholds::Threshold;
 use structure::Group;
 use structure::Structure;
 use structure::everyone;
+use structure::is_yard_size;
 
 impl Threshold {
     /// The threshold structure of `n` controllers with the fault number `t`.
+    ///
+    /// Refused with 1 where `n` is 0 or above 16, then with 5 where 3 × `t` is `n` or more.
     pub fn new(n: u32, t: u32) -> Result<Threshold, ThresholdRefusal>
         ensures answer { λ r. ⌜ said r ≡ making n t ⌝ }
-        ensures reason { λ r. ⌜ elim r [ Ok s ↦ (size-of s ≡ n) × (faults-of s ≡ t) | Err e ↦ AgainstMaking n t e ] ⌝ }
+        ensures reason { λ r. ⌜ elim r [ Ok s ↦ (size-of s ≡ n) × (faults-of s ≡ t) | Err e ↦ Against-making n t e ] ⌝ }
     {
-        if n == 0 || n > 16 {
+        if !is_yard_size(n) {
             return Err(ThresholdRefusal::YardSize);
         }
         if t.saturating_mul(3) >= n {
@@ -35,12 +38,12 @@ impl Threshold {
     }
 }
 
-/// The greatest fault number that a yard of `n` controllers can have.
+/// The greatest fault number that a yard of `n` controllers can have. Refused with 1 where `n` is 0 or above 16.
 pub fn greatest_faults(n: u32) -> Result<u8, ThresholdRefusal>
     ensures answer { λ r. ⌜ said r ≡ asking n ⌝ }
-    ensures reason { λ r. ⌜ elim r [ Ok t ↦ (t ≡ (n - 1) / 3) × Greatest n t | Err e ↦ AgainstAsking n e ] ⌝ }
+    ensures reason { λ r. ⌜ elim r [ Ok t ↦ (t ≡ (n - 1) / 3) × Greatest n t | Err e ↦ Against-asking n e ] ⌝ }
 {
-    if n == 0 || n > 16 {
+    if !is_yard_size(n) {
         return Err(ThresholdRefusal::YardSize);
     }
     Ok(((n - 1) / 3) as u8)

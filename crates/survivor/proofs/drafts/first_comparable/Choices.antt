@@ -1,5 +1,5 @@
 use Prim.Native.Nat.{ℕ, _<_, _^_}
-use Rattle.survivor.specs.Sets.{Inside}
+use Rattle.cores.specs.Sharing.{Inside}
 use Rattle.survivor.proofs.Adding.{Left}
 use Rattle.survivor.proofs.drafts.first_comparable.Given as given
 

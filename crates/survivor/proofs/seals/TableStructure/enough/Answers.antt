@@ -9,7 +9,7 @@ use Rattle.structure.specs.Groups.{within}
 use Rattle.structure.proofs.Bits.{within-decides}
 use Rattle.survivor.specs.declared.tables.Draft.{Draft}
 use Rattle.survivor.specs.Drafts.{sets-of}
-use Rattle.survivor.specs.Sets.{Inside}
+use Rattle.cores.specs.Sharing.{Inside}
 use Rattle.survivor.proofs.Sealing.{enough-here, enough-none}
 use Rattle.survivor.proofs.seals.TableStructure.enough.Needs as need
 

@@ -19,4 +19,4 @@ got xs i (Some x) (l, e) = ap Some (e 0) ∙ sym (nth-getD xs i 0 l)
 pub returns : need.returns
 returns c =
     c .copied .ensures ∙ got (c .leads .result .now) (c .args .place) (c .get .result) (c .get .ensures .finds .3)
-    ∙ ap (λ v. nth v (c .args .place)) (c .leads .ensures ∙ c .args .self .now .led)
+    ∙ ap (λ v. nth v (c .args .place)) (c .leads .ensures .answer)

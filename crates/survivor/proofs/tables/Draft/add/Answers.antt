@@ -11,7 +11,7 @@ use Rattle.std.proofs.shelf.Lists.{length-take}
 use Rattle.std.proofs.shelf.Tests.{leb-true, leb-false}
 use Rattle.survivor.specs.declared.tables.Draft.{Draft}
 use Rattle.survivor.specs.Drafts.{sets-of, misplaced, first-comparable}
-use Rattle.survivor.specs.Sets.{Inside}
+use Rattle.cores.specs.Sharing.{Inside}
 use Rattle.survivor.proofs.Adding.{misplaced-so, placed-below, placed-proper, adding-misplaced, adding-full, adding-placed, none-ordered, first-ordered, sets-more, peopled-more, inside-more, unordered-more}
 use Rattle.survivor.proofs.tables.Draft.add.Needs as need
 

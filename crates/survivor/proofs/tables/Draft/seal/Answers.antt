@@ -49,8 +49,8 @@ some-set xs ys e t = let ne = eqb-false (length xs) 0 (sym t) in let h = ap leng
 pub leading-core-requires : need.leading-core-requires
 leading-core-requires c κs = some-set (c .sets .result .now) (sets-of (c .args .self .now)) (c .sets .ensures) (c .if-is-empty .ensures tt)
 
-pub ghost-place : need.ghost-place
-ghost-place c =
+pub ghost-table : need.ghost-table
+ghost-table c =
     let d = c .args .self .now in (
       search needs,
       (
