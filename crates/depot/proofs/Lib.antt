@@ -1,0 +1,4 @@
+mod BayLists
+pub mod Steps
+mod BoardRuns
+mod PlanRuns

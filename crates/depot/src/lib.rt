@@ -1,0 +1,31 @@
+//! The duties of a bus depot: the board, which grants amps to the charging bays, and the plan book.
+mod bays;
+mod board_duty;
+mod boards;
+mod books;
+mod plan_duty;
+mod refusals;
+mod values;
+
+pub use bays::Bay;
+pub use bays::BayDebug;
+pub use bays::BayEq;
+pub use bays::BayPartialEq;
+pub use board_duty::BoardDuty;
+pub use boards::Board;
+pub use books::PlanBook;
+pub use plan_duty::PlanBookDuty;
+pub use refusals::SettingsRefusal;
+pub use refusals::SettingsRefusalDebug;
+pub use refusals::SettingsRefusalEq;
+pub use refusals::SettingsRefusalPartialEq;
+pub use values::Grant;
+pub use values::GrantDebug;
+pub use values::GrantEq;
+pub use values::GrantPartialEq;
+pub use values::GrantSame;
+pub use values::Plan;
+pub use values::PlanDebug;
+pub use values::PlanEq;
+pub use values::PlanPartialEq;
+pub use values::PlanSame;

@@ -1,0 +1,2 @@
+pub mod Takings
+mod Turns
