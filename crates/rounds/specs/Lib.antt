@@ -1,0 +1,5 @@
+pub mod Rows
+pub mod Rounds
+pub mod Laws
+pub mod Slots
+pub mod Agreement
