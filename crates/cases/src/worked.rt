@@ -7,5 +7,5 @@ pub fn worked_cases() -> usize
     ensures count { λ r. ⌜ r ≡ length listed ⌝ }
     ensures yielded { λ _. ⌜ Yields-all listed ⌝ }
 {
-    18
+    29
 }

@@ -1,14 +1,12 @@
 -- What a board means, and what the calls on it promise.
 use mathlib.Core.Bool.{true, false}
-use mathlib.Core.List.{List, [], _∷_}
+use mathlib.Core.List.{List, []}
 use mathlib.Core.Path.{_≡_}
 use Prim.Native.Nat.{ℕ}
 use lib.ListN.{take}
 use Rattle.std.specs.declared.result.Result.{Result}
 use Rattle.std.specs.declared.result.Result.the-variants.{Ok, Err}
-use Rattle.duty.specs.Codes.{Code}
 use Rattle.depot.specs.declared.boards.Board.{Board}
-use Rattle.depot.specs.declared.values.Grant.{Grant}
 use Rattle.depot.specs.declared.refusals.SettingsRefusal.{SettingsRefusal}
 use Rattle.depot.specs.Refusals.{number, values}
 use Rattle.depot.specs.Bays.{amps-of}
@@ -20,10 +18,6 @@ settings-of b = record { bays = b .count; feed = b .feed }
 -- the amps of each of the board's bays, in order
 abbrev pub content-of : Board → List ℕ
 content-of b = amps-of (take (b .count) (b .bays .records))
-
--- a grant's code is its bay and its amps
-abbrev pub code-of : Grant → Code
-code-of g = g .bay ∷ g .amps ∷ []
 
 -- with settings in range a new board, else a refusal with 6
 abbrev pub Made : Settings → Result Board SettingsRefusal → Type 0

@@ -22,7 +22,7 @@ in-range s = leb 1 (s .bays) && leb (s .bays) 64 && leb (s .feed) 32000
 abbrev pub new-board : Settings → List ℕ
 new-board s = replicate (s .bays) 0
 
--- a grant's code is its bay and its amps
+-- the bay and the amps of a grant, by its code
 abbrev pub bay-of : Code → ℕ
 bay-of grant = getD grant 0 0
 

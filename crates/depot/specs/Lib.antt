@@ -1,4 +1,5 @@
 pub mod Refusals
+pub mod Values
 pub mod Bays
 pub mod Boards
 pub mod BoardCalls

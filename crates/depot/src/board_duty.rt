@@ -3,10 +3,14 @@ ghost use mathlib.Core.Bool.{true};
 ghost use mathlib.Core.List.{List};
 ghost use mathlib.Core.Path.{_≡_};
 ghost use Prim.Native.Nat.{ℕ, _+_, _≤_};
+ghost use Rattle.std.specs.declared.result.Result.the-variants.{Ok};
 ghost use Rattle.std.specs.shelf.Lists.{sum};
+ghost use Rattle.duty.specs.Taking.{Takes};
+ghost use Rattle.duty.specs.declared.outcomes.Outcome.the-variants.{Aside};
 ghost use Rattle.depot.specs.Bays.{amps-of};
 ghost use Rattle.depot.specs.Boards.{Settings as BoardSettings, fitting as grant-fits, step as grant-step, replaced};
-ghost use Rattle.depot.specs.BoardCalls.{settings-of, content-of, code-of, Made};
+ghost use Rattle.depot.specs.BoardCalls.{settings-of, content-of, Made};
+ghost use Rattle.depot.specs.Values.{grant-code};
 ghost use Rattle.depot.specs.BoardLaws.{Lasting};
 use crate::bays::Bay;
 use crate::bays::Bays;
@@ -22,7 +26,7 @@ use duty::Outcome;
 const PAST_FEED: Outcome = Outcome::Aside(15);
 
 impl Board {
-    /// A board of 1 to 64 bays on a feed of at most 32,000 A, with all bays at 0.
+    /// A board of 1 to 64 bays on a feed of at most 32,000 A, with all bays at 0. Other settings are refused with 6.
     pub fn new(bays: u32, feed: u32) -> Result<Board, SettingsRefusal>
         ensures made { λ r. ⌜ Made (record { bays = bays; feed = feed }) r ⌝ }
         ensures lasting { λ r. ⌜ Lasting r ⌝ }
@@ -65,16 +69,16 @@ impl Board {
 
     /// The amps of all bays together with those of the grant's bay replaced.
     fn total_with(&self, grant: &Grant) -> u32
-        requires { ⌜ grant-fits (settings-of (now self)) (code-of (now grant)) ≡ true ⌝ }
-        ensures { λ r. ⌜ r ≡ sum (replaced (content-of (now (self .entry))) (code-of (now (grant .entry)))) ⌝ }
+        requires { ⌜ grant-fits (settings-of (now self)) (grant-code (now grant)) ≡ true ⌝ }
+        ensures { λ r. ⌜ r ≡ sum (replaced (content-of (now (self .entry))) (grant-code (now (grant .entry)))) ⌝ }
     {
         self.others(grant) + grant.amps
     }
 
     /// The amps of all bays together but for the grant's bay.
     fn others(&self, grant: &Grant) -> u32
-        requires { ⌜ grant-fits (settings-of (now self)) (code-of (now grant)) ≡ true ⌝ }
-        ensures value { λ r. ⌜ r + now (grant .entry) .amps ≡ sum (replaced (content-of (now (self .entry))) (code-of (now (grant .entry)))) ⌝ }
+        requires { ⌜ grant-fits (settings-of (now self)) (grant-code (now grant)) ≡ true ⌝ }
+        ensures value { λ r. ⌜ r + now (grant .entry) .amps ≡ sum (replaced (content-of (now (self .entry))) (grant-code (now (grant .entry)))) ⌝ }
         ensures within { λ r. ⌜ r ≤ settings-of (now (self .entry)) .feed ⌝ }
     {
         self.total() - self.bays.records[grant.bay as usize].amps
@@ -100,7 +104,10 @@ pub impl Duty for Board as BoardDuty {
         grant.bay < self.count && grant.amps <= 1_000
     }
 
-    fn take(&mut self, grant: &Grant) -> Result<Outcome, DutyRefusal> {
+    fn take(&mut self, grant: &Grant) -> Result<Outcome, DutyRefusal>
+        ensures takes { λ r. ⌜ Takes settings-of content-of grant-fits grant-step (now (self .entry)) (grant-code (now (grant .entry))) r (now (self .exit)) ⌝ }
+        ensures aside { λ r. ⌜ (r ≡ Ok (Aside 15) → now (self .exit) ≡ now (self .entry)) ⌝ }
+    {
         if !self.fits(grant) {
             return Err(DutyRefusal::Unfit);
         }

@@ -6,8 +6,8 @@ ghost use Rattle.std.specs.shelf.Lists.{sum};
 ghost use Rattle.depot.specs.Bays.{amps-of};
 use crate::bays::Bays;
 
-/// What each bay of a depot may draw. The bays never sum to more than the feed. Records past the number of bays do not
-/// count, and stay 0.
+/// What each bay of a depot may draw: 1 to 64 bays on a feed of at most 32,000 A. The bays never sum to more than the feed.
+/// Records past the number of bays do not count, and stay 0.
 #[derive(Drop)]
 pub struct Board {
     pub(crate) count: u32,

@@ -13,7 +13,7 @@ use duty::DutyRefusal;
 use duty::Outcome;
 
 impl PlanBook {
-    /// A book of the plans from 1 to the highest, itself from 1 to 9,999, with none in force.
+    /// A book of the plans from 1 to the highest, itself from 1 to 9,999, with none in force. Any other is refused with 6.
     pub fn new(highest: u32) -> Result<PlanBook, SettingsRefusal>
         ensures made { λ r. ⌜ Made highest r ⌝ }
         ensures lasting { λ r. ⌜ Lasting r ⌝ }

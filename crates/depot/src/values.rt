@@ -1,5 +1,5 @@
 //! The two kinds of values: plan numbers and grants.
-ghost use mathlib.Core.List.{[], _∷_};
+ghost use Rattle.depot.specs.Values.{plan-code, grant-code};
 use duty::Same;
 
 /// The number of a plan. 0 stands for no plan.
@@ -14,7 +14,7 @@ pub struct Grant {
 }
 
 pub impl Same for Plan as PlanSame {
-    ghost code = { λ p. p .0 ∷ [] };
+    ghost code = { plan-code };
 
     fn same(&self, other: &Plan) -> bool {
         self.0 == other.0
@@ -22,7 +22,7 @@ pub impl Same for Plan as PlanSame {
 }
 
 pub impl Same for Grant as GrantSame {
-    ghost code = { λ g. g .bay ∷ g .amps ∷ [] };
+    ghost code = { grant-code };
 
     fn same(&self, other: &Grant) -> bool {
         self.bay == other.bay && self.amps == other.amps

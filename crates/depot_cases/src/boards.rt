@@ -11,7 +11,6 @@ use duty::DutyRefusalPartialEq;
 use duty::Outcome;
 use duty::OutcomeDebug;
 use duty::OutcomePartialEq;
-use duty::replay;
 use std::test::*;
 
 /// The board's answer to a grant of so many amps to the bay.
@@ -128,18 +127,4 @@ fn a_board_of_64_bays_is_used_whole() -> Result<(), Fail> {
     check_eq(give(&mut board, 63, 1), Ok(Outcome::Taken))?;
     check_eq(board.total(), 32_000)?;
     check_eq(board.bays().len(), 64)
-}
-
-#[test]
-fn a_replay_gives_each_grant_in_its_turn() -> Result<(), Fail> {
-    let mut board = Board::new(2, 100)?;
-    let grants = [
-        Grant { bay: 0, amps: 60 },
-        Grant { bay: 1, amps: 40 },
-        Grant { bay: 1, amps: 41 },
-        Grant { bay: 2, amps: 1 },
-        Grant { bay: 0, amps: 10 },
-    ];
-    replay(&mut board, &grants);
-    check(has(&board, &[10, 40]))
 }

@@ -27,11 +27,11 @@ pub trait Duty {
 
     ghost step: { Settings → Content → Code → Content × Outcome };
 
-    /// Whether the value fits.
+    /// Whether the value fits. Asking alters nothing and is never refused.
     fn fits(&self, value: &Self::Value) -> bool
         ensures { λ r. ⌜ r ≡ fitting (settings (now (self .entry))) (Value·Same .code (now (value .entry))) ⌝ };
 
-    /// Takes the value: a fitting one as `step` has it; an unfit one is refused, and the duty stays as it was.
+    /// Takes the value: a fitting one as `step` has it; an unfit one is refused with 4, and the duty stays as it was.
     fn take(&mut self, value: &Self::Value) -> Result<Outcome, DutyRefusal>
         ensures { λ r. ⌜ Takes settings content fitting step (now (self .entry)) (Value·Same .code (now (value .entry))) r (now (self .exit)) ⌝ };
 }

@@ -3,7 +3,6 @@ mod duties;
 mod laws;
 mod outcomes;
 mod refusals;
-mod replays;
 mod values;
 
 pub use duties::Duty;
@@ -16,5 +15,4 @@ pub use refusals::DutyRefusal;
 pub use refusals::DutyRefusalDebug;
 pub use refusals::DutyRefusalEq;
 pub use refusals::DutyRefusalPartialEq;
-pub use replays::replay;
 pub use values::Same;

@@ -1,7 +1,6 @@
 //! What became of a fitting value.
-ghost use mathlib.Core.List.{[]};
 ghost use mathlib.Core.Path.{_≡_};
-ghost use Rattle.duty.specs.Outcomes.{number, values};
+ghost use Rattle.duty.specs.Outcomes.{number};
 
 /// What became of a fitting value.
 #[derive(Clone, Copy, PartialEq, Eq, Debug)]
@@ -15,8 +14,7 @@ pub enum Outcome {
 impl Outcome {
     /// The number of the reason for which the value was set aside; a value that was taken has none.
     pub fn number(self) -> Option<u8>
-        ensures value { λ r. ⌜ r ≡ number self ⌝ }
-        ensures alone { λ _. ⌜ values self ≡ [] ⌝ }
+        ensures { λ r. ⌜ r ≡ number self ⌝ }
     {
         match self {
             Outcome::Taken => None,

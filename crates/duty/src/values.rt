@@ -7,7 +7,7 @@ ghost use Rattle.std.specs.Orderings.{Decides};
 pub trait Same: Copy {
     ghost code: { Self → Code };
 
-    /// Whether the two are the same value.
+    /// Whether the two are the same value. Asking alters nothing and is never refused.
     fn same(&self, other: &Self) -> bool
         ensures { λ r. ⌜ Decides r (code (now (self .entry)) ≡ code (now (other .entry))) ⌝ };
 }

@@ -35,6 +35,13 @@ impl Meter {
     {
         Meter { limit, latest: 0 }
     }
+
+    /// The latest reading.
+    pub fn latest(&self) -> Reading
+        ensures { λ r. ⌜ r .0 ≡ now (self .entry) .latest ⌝ }
+    {
+        Reading(self.latest)
+    }
 }
 
 pub impl Duty for Meter as MeterDuty {

@@ -66,7 +66,7 @@ pub fn show(rt: &LibcRuntime) -> io::Result<()> {
             amps: 1_001,
         },
     ];
-    println!(rt, "grant    answer")?;
+    println!(rt, "bay/amps answer")?;
     for grant in &grants {
         let answer = Answer(board.take(grant));
         let Grant { bay, amps } = *grant;
