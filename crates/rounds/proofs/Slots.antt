@@ -252,3 +252,44 @@ module _ (m : Meaning) (laws : Laws m) (fits : Code → Bool) (S : ℕ) (x : ℕ
 
 pub slot-agrees : (m : Meaning) → Laws m → Slot-agrees m
 slot-agrees m laws fits S x rows enough truly = agree m laws fits S x rows enough truly
+
+-- ---- one slot, whatever is heard: before the last row it is open at the round that is due, and with the last row it closes
+module _ (m : Meaning) (fits : Code → Bool) (x : Code) (rows : ℕ → Row) where
+  -- the stage after t rows, by its phase and its round
+  pub data Open (t : ℕ) (s : Stage) : Type 0 where
+    polling : (k : ℕ) (v : Code) → s ≡ poll k v → t ≡ 3 * k → Open t s
+    confirming : (k : ℕ) (v : Code) (w : Word) → s ≡ confirm k v w → t ≡ 3 * k + 1 → Open t s
+    leading : (k : ℕ) (v : Code) (b : Bool) → s ≡ lead k v b → t ≡ 3 * k + 2 → Open t s
+
+  pub after-open : (t : ℕ) → t < rounds m → Open t (after m fits x rows t)
+  after-open t l =
+      let k = t / 3 in
+      let e = start-is k in
+      let less : k < length (m .leads) = omega arith in
+      elim (cases-eq (t % 3) 0) [
+        | inl z ↦ let u : start k ≡ t = omega arith in polling k (begun m fits x rows k) (ap (λ i. after m fits x rows i) (sym u) ∙ at-poll m fits x rows k less) (omega arith)
+        | inr ne ↦ elim (cases-eq (t % 3) 1) [
+          | inl z ↦ let u : suc (start k) ≡ t = omega arith in
+              confirming k (begun m fits x rows k) (y m fits x rows k) (ap (λ i. after m fits x rows i) (sym u) ∙ at-confirm m fits x rows k less) (omega arith)
+          | inr ne′ ↦ let u : suc (suc (start k)) ≡ t = omega arith in
+              leading k (z m fits x rows k) (sure m fits x rows k) (ap (λ i. after m fits x rows i) (sym u) ∙ at-lead m fits x rows k less) (omega arith)
+        ]
+      ]
+
+  -- the value with which the slot closes
+  pub slot-value : Code
+  slot-value = begun m fits x rows (length (m .leads))
+
+  pub after-closed : 1 ≤ length (m .leads) → after m fits x rows (rounds m) ≡ closed slot-value
+  unfolding slot-value
+  after-closed some = ap (λ i. after m fits x rows i) (sym (start-is (length (m .leads)))) ∙ at-close m fits x rows some
+
+  pub slot-value-fits : fits x ≡ true → fits slot-value ≡ true
+  unfolding slot-value
+  slot-value-fits h = begun-fits m fits x rows (length (m .leads)) h
+
+-- only the rows before t count
+pub after-same : (m : Meaning) (fits : Code → Bool) (x x′ : Code) (rows rows′ : ℕ → Row) (t : ℕ) → x ≡ x′ → ((i : ℕ) → i < t → rows i ≡ rows′ i) → after m fits x rows t ≡ after m fits x′ rows′ t
+after-same m fits x x′ rows rows′ zero e f = ap (poll 0) e
+after-same m fits x x′ rows rows′ (suc t) e f =
+    ap (λ s. next m s (heard fits (rows t))) (after-same m fits x x′ rows rows′ t e (λ i l. f i (omega arith))) ∙ ap (λ r. next m (after m fits x′ rows′ t) (heard fits r)) (f t (omega arith))

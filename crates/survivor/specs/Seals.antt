@@ -63,8 +63,18 @@ Against-sealing n sets (Comparable p) = ⊥
 Against-sealing n sets NoSet = length sets ≡ 0
 Against-sealing n sets (NoneShared p q r) = None-shared n sets p q r
 
+-- the reason for the answer
+abbrev pub Reason : ℕ → List ℕ → Result (Unit {0}) DraftRefusal → Type 0
+Reason n sets (Ok u) = Sealable n sets
+Reason n sets (Err e) = Against-sealing n sets e
+
 -- ---- what the table holds after sealing: the draft, whole, and the controllers of its leading core by rising number
 pub record Sealed-from (d : Draft) (t : Table) : Type 0 where
   pub copied : draft-of t ≡ d
   pub leads : leads-of t ≡ members (size-of d) (leading-core (size-of d) (sets-of d))
   pub leading : Leading (size-of d) (sets-of d) (leading-core (size-of d) (sets-of d))
+
+-- the table held `old`, and holds `new` after the answer: a refused draft leaves it as it was
+abbrev pub Writes : Draft → Table → Result (Unit {0}) DraftRefusal → Table → Type 0
+Writes d old (Ok u) new = Sealed-from d new
+Writes d old (Err e) new = new ≡ old

@@ -6,12 +6,11 @@ ghost use Prim.Native.Nat.{_<_, _≤_};
 ghost use lib.ListN.{length, take};
 ghost use Rattle.std.specs.Results.{isOk};
 ghost use Rattle.std.specs.declared.option.Option.the-variants.{Some, None};
-ghost use Rattle.std.specs.declared.result.Result.the-variants.{Ok, Err};
 ghost use Rattle.structure.specs.Groups.{members};
 ghost use Rattle.cores.specs.Leads.{leading-core, meets-all, Leading};
 ghost use Rattle.cores.specs.Sharing.{Threes-share, Splits-keep-a-core, Wordings-agree};
 ghost use Rattle.survivor.specs.Drafts.{size-of, sets-of};
-ghost use Rattle.survivor.specs.Seals.{draft-of, leads-of, meaning-of, refused-with, sealing, None-shared, Sealable, Against-sealing, Sealed-from};
+ghost use Rattle.survivor.specs.Seals.{draft-of, leads-of, meaning-of, refused-with, sealing, None-shared, Reason, Writes};
 use crate::refusals::DraftRefusal;
 use crate::tables::Draft;
 use crate::tables::Table;
@@ -91,8 +90,8 @@ impl Draft {
     /// the table as it was.
     pub fn seal(&self, table: &mut Table) -> Result<(), DraftRefusal>
         ensures answer { λ r. ⌜ refused-with r ≡ sealing (size-of (now (self .entry))) (sets-of (now (self .entry))) ⌝ }
-        ensures reason { λ r. ⌜ elim r [ Ok _ ↦ Sealable (size-of (now (self .entry))) (sets-of (now (self .entry))) | Err e ↦ Against-sealing (size-of (now (self .entry))) (sets-of (now (self .entry))) e ] ⌝ }
-        ensures after { λ r. ⌜ elim r [ Ok _ ↦ Sealed-from (now (self .entry)) (now (table .exit)) | Err e ↦ now (table .exit) ≡ now (table .entry) ] ⌝ }
+        ensures reason { λ r. ⌜ Reason (size-of (now (self .entry))) (sets-of (now (self .entry))) r ⌝ }
+        ensures after { λ r. ⌜ Writes (now (self .entry)) (now (table .entry)) r (now (table .exit)) ⌝ }
         ensures threes { λ r. ⌜ (0 < length (sets-of (now (self .entry))) → (isOk r ≡ true) ↔ Threes-share (size-of (now (self .entry))) (sets-of (now (self .entry)))) ⌝ }
         ensures splits { λ r. ⌜ (0 < length (sets-of (now (self .entry))) → (isOk r ≡ true) ↔ Splits-keep-a-core (size-of (now (self .entry))) (sets-of (now (self .entry)))) ⌝ }
         ensures wordings { λ _. ⌜ Wordings-agree ⌝ }

@@ -1,0 +1,5 @@
+mod Divisions
+mod Older
+mod Tracks
+mod Agreed
+mod Served

@@ -1,0 +1,6 @@
+mod Groups
+mod Firsts
+mod Fits
+mod Leads
+mod Words
+mod Hearing
