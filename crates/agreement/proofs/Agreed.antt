@@ -26,7 +26,7 @@ use Rattle.engine.specs.Words.{word-code, codes}
 use Rattle.engine.specs.declared.controllers.Controller.{Controller}
 use Rattle.engine.specs.declared.controllers.Heard.the-variants.{Closed}
 use Rattle.agreement.specs.Histories.{History, accepted, row, answer, pending-at, closings}
-use Rattle.agreement.specs.Lives.{content-by, Stepped, Life, Said, Yard, Agrees, Keeps}
+use Rattle.agreement.specs.Lives.{content-by, Stepped, Life, Speaks-after, Hear-truly, Agrees, Keeps}
 use Rattle.agreement.proofs.Divisions.{inside, slots-within}
 use Rattle.agreement.proofs.Older.{accepted-older, row-older, pending-older}
 use Rattle.agreement.proofs.Tracks.{values-of, values-same, value-codes, R-some, begin, slot, value, given, Past-of, Standing-of, track-run, track}
@@ -45,7 +45,7 @@ stepped-same G σ k (x ∷ xs) (y ∷ ys) p q e =
     ap (λ (v : Code). (v, x .1) ∷ xs) head ∙ ap (λ (o : Outcome). (y .0, o) ∷ xs) outcome ∙ ap (λ zs. y ∷ zs) rest
 
 module _ {S D V : Type 0} (M : Structure S) (G : Duty D V) (K : Same V) (m : Meaning) (laws : Laws m) (σ : G .Settings) (k : G .Content) (A : ℕ) (first : ℕ → V) (history : ℕ → History V) (last : ℕ → Controller S D V)
-    (enough : m .enough A ≡ true) (yard : Yard M G K m σ k A first history last) where
+    (enough : m .enough A ≡ true) (yard : Hear-truly M G K m σ k A first history last) where
   abbrev fits : Code → Bool
   fits = G .fitting σ
 
@@ -87,7 +87,7 @@ module _ {S D V : Type 0} (M : Structure S) (G : Duty D V) (K : Same V) (m : Mea
     by-p t l = omega arith
 
     -- what q says after t rows of the slot is what the rounds give
-    module _ (q : ℕ) (hq : q < m .size) (iq : q ∈ A) (t : ℕ) (l : t < R) (w : Option V) (said : Said M G K (yard .life q hq iq .start) (history q) (j * R + t) w) where
+    module _ (q : ℕ) (hq : q < m .size) (iq : q ∈ A) (t : ℕ) (l : t < R) (w : Option V) (said : Speaks-after M G K (yard .life q hq iq .start) (history q) (j * R + t) w) where
       abbrev life : Life M G K m σ k (first q) (history q) (last q)
       life = yard .life q hq iq
 

@@ -1,6 +1,6 @@
 -- Which drafts a round rule can serve is what sealing answers.
 use Prim.Native.Nat.{ℕ, _<_}
-use mathlib.Core.Path.{_≡_, ap, subst, _∙_}
+use mathlib.Core.Path.{_≡_, refl, sym, ap, subst, _∙_}
 use mathlib.Core.List.{List}
 use mathlib.Core.Bool.{Bool, true, false, cond}
 use mathlib.Core.Logic.{inl, inr, _↔_}
@@ -43,21 +43,28 @@ refused-not-ok : (r : Result (Unit {0}) DraftRefusal) (n : ℕ) → refused-with
 refused-not-ok (Ok u) n e f = let z : _≡_ {A = ℕ} 0 1 = cc in omega arith
 refused-not-ok (Err x) n e f = false≢true f
 
+ok-is : (r : Result (Unit {0}) DraftRefusal) → isOk r ≡ true → r ≡ Ok tt
+ok-is (Ok u) e = refl
+ok-is (Err x) e = absurd (false≢true e)
+
 shown : (n : ℕ) (sets : List ℕ) (r : Result (Unit {0}) DraftRefusal) → Reason n sets r → (p q s : ℕ) → r ≡ Err (NoneShared p q s) → None-shared n sets p q s
 shown n sets r reason p q s e = subst (Reason n sets) e reason
 
 sealing-14 : (n : ℕ) (sets : List ℕ) → 0 < length sets → threes-share n sets ≡ false → sealing n sets ≡ Some 14
 sealing-14 n sets some f = let a = ne-eqb (length sets) 0 (λ z. omega arith) in simp (a, f)
 
-pub served : (rule : Rule) (d : Draft) (r : Result (Unit {0}) DraftRefusal) → 0 < length (sets-of d) →
+pub served : (rule : Rule) (d : Draft) (old : Table) (r : Result (Unit {0}) DraftRefusal) (new : Table) → Written d old r new → 0 < length (sets-of d) →
     refused-with r ≡ sealing (size-of d) (sets-of d) →
     Reason (size-of d) (sets-of d) r →
-    (isOk r ≡ true) ↔ Threes-share (size-of d) (sets-of d) → Served rule d r
-served rule d r some answer reason threes = record {
+    (isOk r ≡ true) ↔ Threes-share (size-of d) (sets-of d) → Served rule d r new
+served rule d old r new w some answer reason threes = record {
   refused = λ e serves. refused-not-ok r 14 e (threes .1 (needs-threes rule (size-of d) (sets-of d) (d .peopled) (d .inside) serves));
   shown = shown (size-of d) (sets-of d) r reason;
   own = λ f. elim (cases-bool (threes-share (size-of d) (sets-of d))) [
-    | inl t ↦ own-serves (size-of d) (sets-of d) (wiring d some) (threes-share-decides (size-of d) (sets-of d) .0 t)
+    | inl t ↦
+        let share = threes-share-decides (size-of d) (sets-of d) .0 t in
+        let ok = ok-is r (threes .1 share) in
+        (ok, subst (λ m. Serves (own-rule m) (size-of d) (sets-of d)) (sym (w .1 ok)) (own-serves (size-of d) (sets-of d) (wiring d some) share))
     | inr t ↦ absurd (f (answer ∙ sealing-14 (size-of d) (sets-of d) some t))
   ];
 }

@@ -57,7 +57,8 @@ module _ {V : Type 0} where
   pending v (spoke w ∷ es) = pending v es
   pending v (heard ws r ∷ es) = pending v es
 
-  -- the proposal that was pending when t rows had just been accepted; at 0 the first proposal
+  -- the proposal that was pending when t rows had just been accepted; at 0 the first proposal, and also past the accepted rows, where nothing
+  -- turns on it
   abbrev pub pending-at : V → History V → ℕ → V
   pending-at v [] t = v
   pending-at v (offered w r ∷ es) t = pending-at v es t

@@ -35,7 +35,7 @@ module _ {D V : Type 0} (G : Duty D V) (σ : G .Settings) (k : G .Content) where
 
 module _ {S D V : Type 0} (M : Structure S) (G : Duty D V) (K : Same V) where
   -- ---- the life of a controller
-  -- exactly what the contract of the call promises
+  -- exactly what the contract of the call promises; speaking borrows the controller shared, so it stays
   abbrev pub Promised : Controller S D V → Event V → Controller S D V → Type 0
   Promised c (offered v r) c′ = Offers M G K c v r c′
   Promised c (spoke w) c′ = Speaks M G K c w × (c′ ≡ c)
@@ -79,8 +79,9 @@ module _ {S D V : Type 0} (M : Structure S) (G : Duty D V) (K : Same V) where
     pub stepped : Stepped G σ k (closings K es)
 
   -- ---- members of a group that hear each other truly
-  -- w is a word that the controller speaks when it has accepted t rows
-  pub record Said (start : Controller S D V) (es : History V) (t : ℕ) (w : Option V) : Type 0 where
+  -- w is a word that speaking answers on some controller to which the calls up to t accepted rows can have led; the one of the life is such a
+  -- controller
+  pub record Speaks-after (start : Controller S D V) (es : History V) (t : ℕ) (w : Option V) : Type 0 where
     pub earlier : History V
     pub later : History V
     pub c : Controller S D V
@@ -91,24 +92,25 @@ module _ {S D V : Type 0} (M : Structure S) (G : Duty D V) (K : Same V) where
 
   -- All members of A are newly opened on structures of one meaning and on duties that are alike. Accepted row t of each carries, at the place of
   -- each member q, a word that q speaks after t accepted rows, so that q has accepted that many. Refused rows and all other words are free.
-  pub record Yard (m : Meaning) (σ : G .Settings) (k : G .Content) (A : ℕ) (first : ℕ → V) (history : ℕ → History V) (last : ℕ → Controller S D V) : Type 0 where
+  pub record Hear-truly (m : Meaning) (σ : G .Settings) (k : G .Content) (A : ℕ) (first : ℕ → V) (history : ℕ → History V) (last : ℕ → Controller S D V) : Type 0 where
     pub life : (p : ℕ) → p < m .size → p ∈ A → Life m σ k (first p) (history p) (last p)
     pub truly : (p q t : ℕ) → p < m .size → (hq : q < m .size) → p ∈ A → (iq : q ∈ A) → t < accepted (history p) →
-        (w : Option V) × Said (life q hq iq .start) (history q) t w × (word-at (codes K (row (history p) t)) q ≡ word-code K w)
+        (w : Option V) × Speaks-after (life q hq iq .start) (history q) t w × (word-at (codes K (row (history p) t)) q ≡ word-code K w)
 
   -- two members with equally many accepted rows have equal contents, closed values and outcomes
   abbrev pub Agrees : Meaning → Type 0
   Agrees m =
       (σ : G .Settings) (k : G .Content) (A : ℕ) (first : ℕ → V) (history : ℕ → History V) (last : ℕ → Controller S D V) →
-      m .enough A ≡ true → Yard m σ k A first history last →
+      m .enough A ≡ true → Hear-truly m σ k A first history last →
       (p q : ℕ) → p < m .size → q < m .size → p ∈ A → q ∈ A → accepted (history p) ≡ accepted (history q) →
       (G .content (last p .duty) ≡ G .content (last q .duty)) × (closings K (history p) ≡ closings K (history q))
 
-  -- a proposal that stood pending in all members as slot j began is the value of that slot
+  -- A proposal that stood pending in all members as slot j began is the value of that slot. Where p has closed it, every member has accepted the
+  -- rows before it.
   abbrev pub Keeps : Meaning → Type 0
   Keeps m =
       (σ : G .Settings) (k : G .Content) (A : ℕ) (first : ℕ → V) (history : ℕ → History V) (last : ℕ → Controller S D V) →
-      m .enough A ≡ true → Yard m σ k A first history last → (j : ℕ) (v : Code) →
+      m .enough A ≡ true → Hear-truly m σ k A first history last → (j : ℕ) (v : Code) →
       ((p : ℕ) → p < m .size → p ∈ A → K .code (pending-at (first p) (history p) (j * rounds m)) ≡ v) →
       (p : ℕ) → p < m .size → p ∈ A → (j + 1) * rounds m ≤ accepted (history p) →
       (x : V) × (o : Outcome) × (answer (history p) (j * rounds m + (rounds m - 1)) ≡ Some (Closed x o)) × (K .code x ≡ v)

@@ -27,16 +27,18 @@ use Rattle.agreement.specs.Lives.{Life, Lived, Agrees, Keeps}
 abbrev pub Written : Draft → Table → Result (Unit {0}) DraftRefusal → Table → Type 0
 Written d old r new = Writes d old r new × (r ≡ Ok tt → meaning-of new ≡ table (size-of d) (sets-of d))
 
--- Sealing is refused with 14 exactly when no round rule at all serves the draft, which holds a set or more.
-pub record Served (rule : Rule) (d : Draft) (r : Result (Unit {0}) DraftRefusal) : Type 0 where
-  -- refused: that any rule serves it is absurd
+-- Sealing is refused with 14 exactly when no round rule at all serves the draft, which holds a set or more. `rule` is any round rule: the call is
+-- generic over it. (A fact in a contract is of Type 0 and Rule is of Type 1, so the quantifier is the call's type parameter.)
+pub record Served (rule : Rule) (d : Draft) (r : Result (Unit {0}) DraftRefusal) (new : Table) : Type 0 where
+  -- refused: that this rule, which is any, serves the draft is absurd
   pub refused : refused-with r ≡ Some 14 → Serves rule (size-of d) (sets-of d) → ⊥
   -- the three sets shown have no controller in common
   pub shown : (p q s : ℕ) → r ≡ Err (NoneShared p q s) → None-shared (size-of d) (sets-of d) p q s
-  -- not refused: our own rounds on the table of its sets are a rule that serves it
-  pub own : (refused-with r ≡ Some 14 → ⊥) → Serves (own-rule (table (size-of d) (sets-of d))) (size-of d) (sets-of d)
+  -- not so refused: it is sealed, and our own rounds on the sealed table are a rule that serves it
+  pub own : (refused-with r ≡ Some 14 → ⊥) → (r ≡ Ok tt) × Serves (own-rule (meaning-of new)) (size-of d) (sets-of d)
 
--- Controllers on any structures with the four laws, any duty and its kind of value.
+-- Controllers on any structures with the four laws (they come with the bound of the call: a type that is a `Structure` has them), any duty and its
+-- kind of value.
 pub record Controllers-agree {S D V : Type 0} (M : Structure S) (G : Duty D V) (K : Same V) : Type 0 where
   -- members of an enough group that hear each other truly agree
   pub agree : (m : Meaning) → Agrees M G K m
@@ -49,5 +51,5 @@ pub record Controllers-agree {S D V : Type 0} (M : Structure S) (G : Duty D V) (
 pub record Promise {S D V : Type 0} (rule : Rule) (M : Structure S) (G : Duty D V) (K : Same V) (d : Draft) (old : Table) (r : Result (Unit {0}) DraftRefusal) (new : Table) : Type 0 where
   pub answer : refused-with r ≡ sealing (size-of d) (sets-of d)
   pub written : Written d old r new
-  pub served : 0 < length (sets-of d) → Served rule d r
+  pub served : 0 < length (sets-of d) → Served rule d r new
   pub controllers : Controllers-agree M G K

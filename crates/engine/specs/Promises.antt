@@ -30,7 +30,8 @@ use Rattle.engine.specs.Rows.{fits-in}
 use Rattle.engine.specs.Words.{word-code, codes}
 
 -- ---- closing: the duty takes the value
--- the outcome of what the duty answered; a refused value counts as set aside under the refusal's number
+-- the outcome of what the duty answered; a refused value counts as set aside under the refusal's number (no closed value of a controller is
+-- refused: whoever seals a table is promised that each fits)
 abbrev pub outcome-of : Result Outcome DutyRefusal → Outcome
 outcome-of (Ok o) = o
 outcome-of (Err e) = Aside (duty-refusals.number e)
@@ -68,6 +69,8 @@ module _ {S D V : Type 0} (M : Structure S) (G : Duty D V) (K : Same V) where
     -- a fitting proposal becomes the pending one, and nothing else changes
     pub structure : c′ .structure ≡ c .structure
     pub duty : c′ .duty ≡ c .duty
+    pub held : c′ .held ≡ c .held
+    pub phase : c′ .phase ≡ c .phase
     pub stage : stage-of K c′ ≡ stage-of K c
     pub taken : fits-on G c (K .code v) ≡ true → (r ≡ Ok tt) × (c′ .pending ≡ v)
     -- an unfit one is refused with 4, and the whole controller stays

@@ -51,7 +51,7 @@ impl<S: Structure, D: Duty> Controller<S, D> {
         })
     }
 
-    /// Replaces the pending proposal, and leaves the running slot. Refused with 4 where it does not fit.
+    /// Replaces the pending proposal, and leaves the running slot. Refused with 4 where it does not fit; then nothing changes.
     pub fn offer(&mut self, value: D::Value) -> Result<(), DutyRefusal>
         ensures { λ r. ⌜ Offers S·Structure D·Duty Value·Same (now (self .entry)) value r (now (self .exit)) ⌝ }
     {
@@ -76,7 +76,7 @@ impl<S: Structure, D: Duty> Controller<S, D> {
     /// Hears a row: one round of the slot. It answers the round now due, or the closed value with the duty's outcome; the next slot
     /// then begins with the pending proposal.
     ///
-    /// Refused with 3 where the row has not one word for each controller.
+    /// Refused with 3 where the row has not one word for each controller; then nothing changes.
     pub fn hear(&mut self, words: &[Option<D::Value>]) -> Result<Heard<D::Value>, RowRefusal>
         ensures { λ r. ⌜ Hears S·Structure D·Duty Value·Same (now (self .entry)) (now (words .entry)) r (now (self .exit)) ⌝ }
     {

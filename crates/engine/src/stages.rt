@@ -1,4 +1,6 @@
 //! The stages of a slot, one type for each: a row uses a stage up and gives the next.
+//!
+//! All rows of a slot are to be checked on one structure and one duty; a controller sees to that.
 ghost use mathlib.Core.Bool.{true};
 ghost use mathlib.Core.Path.{_≡_};
 ghost use Rattle.std.specs.declared.option.Option.the-variants.{Some, None};
@@ -54,7 +56,7 @@ pub enum Next<V> {
 }
 
 impl<V: Same + Drop> Poll<V> {
-    /// Begins a slot with a value.
+    /// Begins a slot with a value. What a slot promises is of values that fit.
     pub fn open(x: V) -> Poll<V>
         ensures stage { λ r. ⌜ poll-stage V·Same r ≡ poll 0 (V·Same .code x) ⌝ }
         ensures same { λ r. ⌜ r .x ≡ x ⌝ }
@@ -114,7 +116,8 @@ impl<V: Same + Drop> Confirm<V> {
         self.y
     }
 
-    /// Hears the row of the confirmation: the weighty value at the lowest place is confirmed, or else the value held.
+    /// Hears the row of the confirmation: the weighty value at the lowest place is confirmed, or else the value held. Every row that
+    /// `Row::check` gives is whole.
     pub fn hear<'w, S: Structure, D: Duty<Value = V>>(self, row: &Row<'_, 'w, S, D>) -> Lead<V>
     where
         V: 'w,

@@ -8,7 +8,7 @@ use duty::Same;
 use structure::Group;
 
 /// The group of a value: the controllers whose word is the value. A yard has 16 controllers at most, so later words do not
-/// count.
+/// count. Unfit values are not sifted out here; the calls that hear a row do that.
 pub fn tally<V: Same>(words: &[Option<V>], value: &V) -> Group
     ensures { λ r. ⌜ r ≡ group (V·Same .code (now (value .entry))) (codes V·Same (take 16 (now (words .entry)))) ⌝ }
 {

@@ -2,13 +2,14 @@
 use Prim.Native.Nat.{ℕ, zero, suc, _<_}
 use mathlib.Core.Path.{_≡_, refl, sym, ap, _∙_}
 use mathlib.Core.List.{List, [], _∷_}
-use mathlib.Core.Bool.{Bool, true}
-use mathlib.Core.Logic.{ite, if-pos, if-neg}
+use mathlib.Core.Bool.{Bool, true, false, cond}
+use mathlib.Core.Logic.{inl, inr}
 use native.Mathlib.Omega.{arith}
 use lib.ListN.{length}
-use Rattle.structure.specs.Groups.{_∈_}
+use Rattle.std.proofs.shelf.Tests.{cases-bool, cond-true, cond-false}
+use Rattle.structure.specs.Groups.{_∈_, has}
 use Rattle.structure.specs.Meanings.{Meaning}
-use Rattle.structure.proofs.Masks.{member?}
+use Rattle.structure.proofs.Bits.{has-decides}
 use Rattle.duty.specs.Codes.{Code}
 use Rattle.rounds.specs.Rows.{Word, Row, word-at, heard}
 use Rattle.rounds.specs.Slots.{Stage, speaks, next, after}
@@ -16,7 +17,7 @@ use Rattle.rounds.specs.Slots.Stage.{poll}
 use Rattle.rounds.specs.Agreement.{Heard-truly, Runs-exist}
 
 -- the row of n words made from a function of the place
-abbrev row-of : (ℕ → Word) → ℕ → Row
+abbrev pub row-of : (ℕ → Word) → ℕ → Row
 row-of f zero = []
 row-of f (suc n) = f 0 ∷ row-of (λ i. f (suc i)) n
 
@@ -29,20 +30,23 @@ row-at f zero i h = absurd (omega arith)
 row-at f (suc n) zero h = refl
 row-at f (suc n) (suc i) h = row-at (λ j. f (suc j)) n i (omega arith)
 
+not-has : (S q : ℕ) → (q ∈ S → ⊥) → has S q ≡ false
+not-has S q out = elim (cases-bool (has S q)) [ inl e ↦ absurd (out (has-decides S q .0 e)) | inr e ↦ e ]
+
 module _ (m : Meaning) (fits : Code → Bool) (S : ℕ) (x : ℕ → Code) (free : ℕ → ℕ → ℕ → Word) where
   -- what p hears of q in round t, where the controllers stand at these stages
-  abbrev says : (ℕ → Stage) → ℕ → ℕ → ℕ → Word
-  says at t p q = ite (member? S q) (speaks (at q)) (free p q t)
+  abbrev pub says : (ℕ → Stage) → ℕ → ℕ → ℕ → Word
+  says at t p q = cond (has S q) (speaks (at q)) (free p q t)
 
   -- all controllers, after t rounds
-  abbrev stands : ℕ → ℕ → Stage
+  abbrev pub stands : ℕ → ℕ → Stage
   stands zero q = poll 0 (x q)
   stands (suc t) q = next m (stands t q) (heard fits (row-of (says (stands t) t q) (m .size)))
 
-  abbrev rows : ℕ → ℕ → Row
+  abbrev pub rows : ℕ → ℕ → Row
   rows p t = row-of (says (stands t) t p) (m .size)
 
-  after-stands : (q t : ℕ) → after m fits (x q) (rows q) t ≡ stands t q
+  pub after-stands : (q t : ℕ) → after m fits (x q) (rows q) t ≡ stands t q
   after-stands q zero = refl
   after-stands q (suc t) = ap (λ s. next m s (heard fits (rows q t))) (after-stands q t)
 
@@ -50,11 +54,11 @@ module _ (m : Meaning) (fits : Code → Bool) (S : ℕ) (x : ℕ → Code) (free
   heard-truly fit = record {
     fit = fit;
     whole = λ p t h i u. row-length (says (stands t) t p) (m .size);
-    truly = λ p q t hp hq ip iq u. row-at (says (stands t) t p) (m .size) q hq ∙ if-pos (member? S q) iq (speaks (stands t q)) (free p q t) ∙ ap speaks (sym (after-stands q t));
+    truly = λ p q t hp hq ip iq u. row-at (says (stands t) t p) (m .size) q hq ∙ cond-true (has S q) (speaks (stands t q)) (free p q t) (has-decides S q .1 iq) ∙ ap speaks (sym (after-stands q t));
   }
 
   pub said-freely : (p q t : ℕ) → q < m .size → (q ∈ S → ⊥) → word-at (rows p t) q ≡ free p q t
-  said-freely p q t h out = row-at (says (stands t) t p) (m .size) q h ∙ if-neg (member? S q) out (speaks (stands t q)) (free p q t)
+  said-freely p q t h out = row-at (says (stands t) t p) (m .size) q h ∙ cond-false (has S q) (speaks (stands t q)) (free p q t) (not-has S q out)
 
 pub runs-exist : (m : Meaning) → Runs-exist m
 runs-exist m fits S x free fit = (rows m fits S x free, heard-truly m fits S x free fit, said-freely m fits S x free)

@@ -11,7 +11,7 @@ use Rattle.rounds.specs.Rows.{Word, Row, word-at}
 use Rattle.rounds.specs.Slots.{Stage, speaks, lead-of, rounds, after}
 use Rattle.rounds.specs.Slots.Stage.{poll, confirm, lead, closed}
 
--- every value that the stage holds is v, and the controller is sure of it
+-- every value that the stage holds is v, and in the lead round the controller is sure of it
 abbrev pub Holds : Code → Stage → Type 0
 Holds v (poll k x) = x ≡ v
 Holds v (confirm k x y) = (x ≡ v) × (y ≡ Some v)

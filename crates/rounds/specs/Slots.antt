@@ -24,7 +24,7 @@ speaks (lead k z sure) = Some z
 speaks (closed x) = None
 
 module _ (m : Meaning) where
-  -- the lead of a phase
+  -- the lead of a phase; past the last phase 0, which nobody asks for
   abbrev pub lead-of : ℕ → ℕ
   lead-of k = getD (m .leads) k 0
 

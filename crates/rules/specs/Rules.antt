@@ -10,7 +10,7 @@ use Rattle.std.specs.declared.option.Option.the-variants.{Some}
 use Rattle.structure.specs.Groups.{_∈_, Within}
 use Rattle.cores.specs.Sharing.{None-empty, Inside, Threes-share}
 
--- A round rule: states and words of any type, inputs of any type with at least two values; a number of rounds; a first state from controller
+-- A deterministic round rule: states and words of any type, inputs of any type with at least two values; a number of rounds; a first state from controller
 -- number and input; a word from state and listener; a next state from state and row; and a decision from the state.
 pub record Rule : Type 1 where
   pub State : Type 0
@@ -43,7 +43,8 @@ module _ (r : Rule) (n S : ℕ) (inputs : ℕ → r .Input) (state : ℕ → ℕ
 abbrev pub Contains : ℕ → List ℕ → ℕ → Type 0
 Contains n sets S = (j : ℕ) × (j < length sets) × Within n (getD sets j 0) S
 
--- the rule serves the draft: so do all groups that contain a set of it decide, whatever their inputs and whatever the others say
+-- The rule serves the draft: in every run in which the members of a group that contains one of its sets follow the rule, they so decide,
+-- whatever their inputs and whatever the others say.
 abbrev pub Serves : Rule → ℕ → List ℕ → Type 0
 Serves r n sets =
     (S : ℕ) → Contains n sets S →

@@ -13,10 +13,13 @@ returns g c =
     let d = c .args .draft .now in
     let r = c .seal .result in
     let lawful = g .S·Structure·met .lawful in
+    let old = c .args .table .now in
+    let new = c .seal .last .table in
+    let w = written d old r new (c .seal .ensures .after) in
     record {
       answer = c .seal .ensures .answer;
-      written = written d (c .args .table .now) r (c .seal .last .table) (c .seal .ensures .after);
-      served = λ some. served (g .R·RoundRule .rule) d r some (c .seal .ensures .answer) (c .seal .ensures .reason) (c .seal .ensures .threes some);
+      written = w;
+      served = λ some. served (g .R·RoundRule .rule) d old r new w some (c .seal .ensures .answer) (c .seal .ensures .reason) (c .seal .ensures .threes some);
       controllers = record {
         agree = agrees M G K lawful;
         live = λ m σ k v es c life. lived M G K m (subst Laws (life .meaning) (lawful (life .s))) σ k v es c life;
