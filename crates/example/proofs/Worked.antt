@@ -16,13 +16,13 @@ use Rattle.structure.specs.Meanings.{Meaning}
 use Rattle.structure.proofs.Bits.{in-below}
 use Rattle.duty.specs.Codes.{Code}
 use Rattle.duty.specs.declared.outcomes.Outcome.the-variants.{Taken}
-use Rattle.rounds.specs.Rows.{Word, Row, word-at}
-use Rattle.rounds.specs.Slots.{Stage, speaks}
+use Rattle.rounds.specs.Rows.{Word, Row, word-at, heard as heard-by}
+use Rattle.rounds.specs.Slots.{Stage, speaks, next}
 use Rattle.rounds.specs.Slots.Stage.{poll, confirm, lead, closed}
 use Rattle.rounds.specs.Agreement.{Heard-truly}
 use Rattle.rounds.proofs.Existence.{stands, rows, after-stands, heard-truly, said-freely}
-use Rattle.engine.specs.Controllers.{stage-of, due}
-use Rattle.engine.specs.Promises.{Hears, Closes}
+use Rattle.engine.specs.Controllers.{stage-of, runs-on, fits-on, due}
+use Rattle.engine.specs.Promises.{Hears, Moves, Closes}
 use Rattle.engine.specs.Words.{word-code, codes}
 use Rattle.engine.specs.declared.controllers.Controller.{Controller}
 use Rattle.engine.specs.declared.controllers.Heard.{Heard}
@@ -145,27 +145,40 @@ closes p = record {
   stage = refl;
 }
 
+abbrev Moved : ℕ → ℕ → Type 0
+Moved p t = Moves M G K (at p t) (next (runs-on M (at p t)) (stage-of K (at p t)) (heard-by (fits-on G (at p t)) (codes K (words p t)))) (says p t) (at p (suc t))
+
+made : (p t : ℕ) → stage-of K (at p t) ≡ st p t → codes K (words p t) ≡ heard-codes p t → word-code K (plan-word (speaks (st p t))) ≡ speaks (st p t) →
+    at p (suc t) .structure ≡ at p t .structure → at p (suc t) .pending ≡ at p t .pending → length (words p t) ≡ runs-on M (at p t) .size → Moved p t → Fact p t
+made p t stage code word structure pending whole moved = record {
+  stage = stage;
+  code = code;
+  word = word;
+  hears = record { structure = structure; pending = pending; accepted = λ _. (says p t, refl, moved); refused = λ other. absurd (other whole) };
+}
+
+-- worked out, row by row
 fact : (p t : ℕ) → p < 3 → t < 6 → Fact p t
-fact zero zero h l = record { stage = refl; code = refl; word = refl; hears = record { structure = refl; pending = refl; accepted = λ _. (says 0 0, refl, record { answer = refl; stage = refl; duty = refl }); refused = λ other. absurd (other refl) } }
-fact zero (suc zero) h l = record { stage = refl; code = refl; word = refl; hears = record { structure = refl; pending = refl; accepted = λ _. (says 0 1, refl, record { answer = refl; stage = refl; duty = refl }); refused = λ other. absurd (other refl) } }
-fact zero (suc (suc zero)) h l = record { stage = refl; code = refl; word = refl; hears = record { structure = refl; pending = refl; accepted = λ _. (says 0 2, refl, record { answer = refl; stage = refl; duty = refl }); refused = λ other. absurd (other refl) } }
-fact zero (suc (suc (suc zero))) h l = record { stage = refl; code = refl; word = refl; hears = record { structure = refl; pending = refl; accepted = λ _. (says 0 3, refl, record { answer = refl; stage = refl; duty = refl }); refused = λ other. absurd (other refl) } }
-fact zero (suc (suc (suc (suc zero)))) h l = record { stage = refl; code = refl; word = refl; hears = record { structure = refl; pending = refl; accepted = λ _. (says 0 4, refl, record { answer = refl; stage = refl; duty = refl }); refused = λ other. absurd (other refl) } }
-fact zero (suc (suc (suc (suc (suc zero))))) h l = record { stage = refl; code = refl; word = refl; hears = record { structure = refl; pending = refl; accepted = λ _. (says 0 5, refl, closes 0); refused = λ other. absurd (other refl) } }
+fact zero zero h l = made 0 0 refl refl refl refl refl refl (record { answer = refl; stage = refl; duty = refl })
+fact zero (suc zero) h l = made 0 1 refl refl refl refl refl refl (record { answer = refl; stage = refl; duty = refl })
+fact zero (suc (suc zero)) h l = made 0 2 refl refl refl refl refl refl (record { answer = refl; stage = refl; duty = refl })
+fact zero (suc (suc (suc zero))) h l = made 0 3 refl refl refl refl refl refl (record { answer = refl; stage = refl; duty = refl })
+fact zero (suc (suc (suc (suc zero)))) h l = made 0 4 refl refl refl refl refl refl (record { answer = refl; stage = refl; duty = refl })
+fact zero (suc (suc (suc (suc (suc zero))))) h l = made 0 5 refl refl refl refl refl refl (closes 0)
 fact zero (suc (suc (suc (suc (suc (suc t)))))) h l = absurd (omega arith)
-fact (suc zero) zero h l = record { stage = refl; code = refl; word = refl; hears = record { structure = refl; pending = refl; accepted = λ _. (says 1 0, refl, record { answer = refl; stage = refl; duty = refl }); refused = λ other. absurd (other refl) } }
-fact (suc zero) (suc zero) h l = record { stage = refl; code = refl; word = refl; hears = record { structure = refl; pending = refl; accepted = λ _. (says 1 1, refl, record { answer = refl; stage = refl; duty = refl }); refused = λ other. absurd (other refl) } }
-fact (suc zero) (suc (suc zero)) h l = record { stage = refl; code = refl; word = refl; hears = record { structure = refl; pending = refl; accepted = λ _. (says 1 2, refl, record { answer = refl; stage = refl; duty = refl }); refused = λ other. absurd (other refl) } }
-fact (suc zero) (suc (suc (suc zero))) h l = record { stage = refl; code = refl; word = refl; hears = record { structure = refl; pending = refl; accepted = λ _. (says 1 3, refl, record { answer = refl; stage = refl; duty = refl }); refused = λ other. absurd (other refl) } }
-fact (suc zero) (suc (suc (suc (suc zero)))) h l = record { stage = refl; code = refl; word = refl; hears = record { structure = refl; pending = refl; accepted = λ _. (says 1 4, refl, record { answer = refl; stage = refl; duty = refl }); refused = λ other. absurd (other refl) } }
-fact (suc zero) (suc (suc (suc (suc (suc zero))))) h l = record { stage = refl; code = refl; word = refl; hears = record { structure = refl; pending = refl; accepted = λ _. (says 1 5, refl, closes 1); refused = λ other. absurd (other refl) } }
+fact (suc zero) zero h l = made 1 0 refl refl refl refl refl refl (record { answer = refl; stage = refl; duty = refl })
+fact (suc zero) (suc zero) h l = made 1 1 refl refl refl refl refl refl (record { answer = refl; stage = refl; duty = refl })
+fact (suc zero) (suc (suc zero)) h l = made 1 2 refl refl refl refl refl refl (record { answer = refl; stage = refl; duty = refl })
+fact (suc zero) (suc (suc (suc zero))) h l = made 1 3 refl refl refl refl refl refl (record { answer = refl; stage = refl; duty = refl })
+fact (suc zero) (suc (suc (suc (suc zero)))) h l = made 1 4 refl refl refl refl refl refl (record { answer = refl; stage = refl; duty = refl })
+fact (suc zero) (suc (suc (suc (suc (suc zero))))) h l = made 1 5 refl refl refl refl refl refl (closes 1)
 fact (suc zero) (suc (suc (suc (suc (suc (suc t)))))) h l = absurd (omega arith)
-fact (suc (suc zero)) zero h l = record { stage = refl; code = refl; word = refl; hears = record { structure = refl; pending = refl; accepted = λ _. (says 2 0, refl, record { answer = refl; stage = refl; duty = refl }); refused = λ other. absurd (other refl) } }
-fact (suc (suc zero)) (suc zero) h l = record { stage = refl; code = refl; word = refl; hears = record { structure = refl; pending = refl; accepted = λ _. (says 2 1, refl, record { answer = refl; stage = refl; duty = refl }); refused = λ other. absurd (other refl) } }
-fact (suc (suc zero)) (suc (suc zero)) h l = record { stage = refl; code = refl; word = refl; hears = record { structure = refl; pending = refl; accepted = λ _. (says 2 2, refl, record { answer = refl; stage = refl; duty = refl }); refused = λ other. absurd (other refl) } }
-fact (suc (suc zero)) (suc (suc (suc zero))) h l = record { stage = refl; code = refl; word = refl; hears = record { structure = refl; pending = refl; accepted = λ _. (says 2 3, refl, record { answer = refl; stage = refl; duty = refl }); refused = λ other. absurd (other refl) } }
-fact (suc (suc zero)) (suc (suc (suc (suc zero)))) h l = record { stage = refl; code = refl; word = refl; hears = record { structure = refl; pending = refl; accepted = λ _. (says 2 4, refl, record { answer = refl; stage = refl; duty = refl }); refused = λ other. absurd (other refl) } }
-fact (suc (suc zero)) (suc (suc (suc (suc (suc zero))))) h l = record { stage = refl; code = refl; word = refl; hears = record { structure = refl; pending = refl; accepted = λ _. (says 2 5, refl, closes 2); refused = λ other. absurd (other refl) } }
+fact (suc (suc zero)) zero h l = made 2 0 refl refl refl refl refl refl (record { answer = refl; stage = refl; duty = refl })
+fact (suc (suc zero)) (suc zero) h l = made 2 1 refl refl refl refl refl refl (record { answer = refl; stage = refl; duty = refl })
+fact (suc (suc zero)) (suc (suc zero)) h l = made 2 2 refl refl refl refl refl refl (record { answer = refl; stage = refl; duty = refl })
+fact (suc (suc zero)) (suc (suc (suc zero))) h l = made 2 3 refl refl refl refl refl refl (record { answer = refl; stage = refl; duty = refl })
+fact (suc (suc zero)) (suc (suc (suc (suc zero)))) h l = made 2 4 refl refl refl refl refl refl (record { answer = refl; stage = refl; duty = refl })
+fact (suc (suc zero)) (suc (suc (suc (suc (suc zero))))) h l = made 2 5 refl refl refl refl refl refl (closes 2)
 fact (suc (suc zero)) (suc (suc (suc (suc (suc (suc t)))))) h l = absurd (omega arith)
 fact (suc (suc (suc p))) t h l = absurd (omega arith)
 
