@@ -1,6 +1,7 @@
 //! The worked cases, run: each line has a case and what the code answered.
 
 mod drafts;
+mod rounds;
 mod thresholds;
 mod worked;
 
@@ -20,7 +21,9 @@ fn run(rt: &LibcRuntime) -> Result<(), AnyError> {
     println!(rt, "")?;
     thresholds::enough(rt)?;
     println!(rt, "")?;
-    thresholds::greatest(rt)
+    thresholds::greatest(rt)?;
+    println!(rt, "")?;
+    rounds::rounds(rt)
 }
 
 fn main(rt: LibcRuntime) -> Result<(), AnyError> {

@@ -10,9 +10,9 @@ use std::io;
 
 /// What a board answers to a grant, in words.
 #[derive(Drop)]
-struct Answer(Result<Outcome, DutyRefusal>);
+pub struct Answer(pub Result<Outcome, DutyRefusal>);
 
-impl fmt::Display for Answer as AnswerDisplay {
+pub impl fmt::Display for Answer as AnswerDisplay {
     fn fmt<W: fmt::Write>(&self, f: &mut fmt::Formatter<W>) -> fmt::Result {
         match self.0 {
             Ok(Outcome::Taken) => write!(f, "taken"),
@@ -77,7 +77,7 @@ pub fn show(rt: &LibcRuntime) -> io::Result<()> {
 }
 
 /// Prints a line with a bar for each bay, and the sum.
-fn show_board(rt: &LibcRuntime, board: &Board) -> io::Result<()> {
+pub fn show_board(rt: &LibcRuntime, board: &Board) -> io::Result<()> {
     let feed = board.feed();
     println!(rt, "bay  amps")?;
     for (number, bay) in board.bays().iter().enumerate() {

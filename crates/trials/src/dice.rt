@@ -36,4 +36,23 @@ impl Dice {
         }
         group
     }
+
+    /// The first `n` controllers but for fewer than a third of them: any three such groups share one.
+    pub fn most(&mut self, n: u32) -> u16 {
+        let mut group = 0;
+        for i in 0u32..16 {
+            if i < n {
+                group |= 1 << i;
+            }
+        }
+        for _ in 0..n.saturating_sub(1) / 3 {
+            let out = self.below(u64::from(n));
+            for i in 0u32..16 {
+                if u64::from(i) == out {
+                    group &= !(1 << i);
+                }
+            }
+        }
+        group
+    }
 }

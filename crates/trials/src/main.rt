@@ -4,6 +4,8 @@
 mod dice;
 mod drafts;
 mod naive;
+mod plain_rounds;
+mod rounds;
 mod timing;
 
 use std::env;
@@ -15,7 +17,8 @@ fn run(rt: &LibcRuntime) -> Result<(), AnyError> {
             return timing::measure(rt);
         }
     }
-    drafts::compare(rt)
+    drafts::compare(rt)?;
+    rounds::compare(rt)
 }
 
 fn main(rt: LibcRuntime) -> Result<(), AnyError> {

@@ -140,9 +140,12 @@ impl Naive {
     }
 
     pub fn enough(&self, group: u16) -> bool {
-        let group = flags(group);
+        self.enough_flags(&flags(group))
+    }
+
+    pub fn enough_flags(&self, group: &Flags) -> bool {
         for set in self.sets.iter() {
-            if contains(&group, set) {
+            if contains(group, set) {
                 return true;
             }
         }
