@@ -1,7 +1,7 @@
 -- The leading core: the search finds it, and there is only one.
-use Rattle.std.proofs.Common.{◌≡◌, ℕ, zero, suc, ◌-◌, ◌^◌, ◌<◌, ◌≤◌, Bool, true, false, cond, ◌&&◌, ltb, ◌⊎◌, List, length, get_or, Some, None, Option, sym, refl, ap, ◌∙◌, subst, inl, inr, arith}
+use Rattle.std.proofs.Common.{◌≡◌, ℕ, zero, suc, ◌^◌, ◌<◌, ◌≤◌, Bool, true, false, cond, ◌&&◌, ltb, ◌⊎◌, List, get_or, Some, None, Option, sym, refl, ap, ◌∙◌, subst, inl, inr, arith}
 use Rattle.std.proofs.lemmas.Bool.{cases_eq, cases_lt, and_parts, and_cases, ltb-true, ltb-false, both_ways}
-use Rattle.structure.specs.Groups.{◌∈◌, Within, everyone, count}
+use Rattle.structure.specs.Groups.{everyone, count}
 use Rattle.structure.proofs.Bits.{cut, cut_below, in_cut, cut_in, some_in, none_in, everyone_has, everyone_below}
 use Rattle.structure.proofs.Members.{count_part, count_less, count_full}
 use Rattle.cores.specs.Sharing.{MeetsAll}

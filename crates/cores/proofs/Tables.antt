@@ -1,6 +1,6 @@
 -- A wiring whose sets share controllers by threes means a structure that keeps the four laws.
-use Rattle.std.proofs.Common.{◌≡◌, ℕ, ◌<◌, ◌≤◌, true, List, length, get_or, sym, subst, arith}
-use Rattle.structure.specs.Groups.{◌∈◌, everyone, Shares, Within, members}
+use Rattle.std.proofs.Common.{◌≡◌, ℕ, ◌<◌, true, List, length, get_or, sym, subst, arith}
+use Rattle.structure.specs.Groups.{◌∈◌, everyone, Shares}
 use Rattle.structure.specs.Meanings.{Laws}
 use Rattle.structure.proofs.Bits.{everyone_has}
 use Rattle.structure.proofs.Members.{members_few, members_are, members_differ, member_listed}

@@ -1,4 +1,7 @@
 //! What the controllers agree on, and what is done with it: kinds of values and duties, known by their meanings alone.
+
+#![tactic(auto)]
+
 mod duties;
 mod laws;
 mod outcomes;

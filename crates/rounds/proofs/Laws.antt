@@ -1,7 +1,7 @@
 -- The rounds give what their laws say in words.
 use Rattle.std.proofs.Common.{◌≡◌, ℕ, zero, suc, ◌-◌, ◌^◌, ◌<◌, Bool, true, false, cond, ◌⊎◌, [], ◌∷◌, length, Some, None, Decides, sym, refl, ap, ◌∙◌, subst, inl, inr, arith}
 use Rattle.std.proofs.lemmas.Bool.{cases_Bool, both_ways, not-true, not_from_false, false≢true}
-use Rattle.structure.specs.Groups.{◌∈◌, everyone}
+use Rattle.structure.specs.Groups.{everyone}
 use Rattle.structure.specs.Meanings.{Meaning, Laws}
 use Rattle.structure.proofs.Masks.{meets?}
 use Rattle.duty.specs.Codes.{Code}
@@ -9,7 +9,7 @@ use Rattle.rounds.specs.Rows.{Word, Row, word_at, group}
 use Rattle.rounds.specs.Rounds.{first, or_else, has_enough, weighty, polled, confirmed, led}
 use Rattle.rounds.specs.Laws.{Enough, Weighty, LowestWeighty, Polls, Confirms, Leads}
 use Rattle.rounds.proofs.Words.{some_same, none_some, first_passes, first_found}
-use Rattle.rounds.proofs.Groups.{group_below, in_group, group_in, outside_not, not_outside}
+use Rattle.rounds.proofs.Groups.{group_below, in_group, outside_not, not_outside}
 
 -- the first value that passes stands at some place, and none that passes at a lower one
 pub first_lowest : (test : Code → Bool) (row : Row) (v : Code) → first test row ≡ Some v

@@ -1,11 +1,11 @@
 -- One round heard truly within an enough group: what any two members make of their rows.
-use Rattle.std.proofs.Common.{◌≡◌, ℕ, ◌^◌, ◌<◌, Bool, true, false, length, Some, sym, refl, ap, ◌∙◌}
+use Rattle.std.proofs.Common.{◌≡◌, ℕ, ◌<◌, Bool, true, false, length, Some, sym, refl, ap, ◌∙◌}
 use Rattle.structure.specs.Groups.{◌∈◌}
 use Rattle.structure.specs.Meanings.{Meaning, Laws}
 use Rattle.duty.specs.Codes.{Code}
 use Rattle.rounds.specs.Rows.{Word, Row, word_at, heard_word, heard, group}
 use Rattle.rounds.specs.Rounds.{first, has_enough, weighty, polled, confirmed, led}
-use Rattle.rounds.specs.Laws.{Enough, Weighty}
+use Rattle.rounds.specs.Laws.{Enough}
 use Rattle.rounds.proofs.Words.{some_same, or_else_some, length_heard, heard_at, heard_same, first_passes, first_found}
 use Rattle.rounds.proofs.Groups.{in_group, group_in}
 use Rattle.rounds.proofs.Laws.{weighty_decides, polled_value}

@@ -1,5 +1,5 @@
 -- One slot, phase by phase: members of an enough group that hear each other truly come to hold one value, and keep it.
-use Rattle.std.proofs.Common.{◌≡◌, ℕ, zero, suc, ◌+◌, ◌-◌, ◌*◌, ◌/◌, ◌%◌, ◌<◌, ◌≤◌, Bool, true, false, cond, ltb, ◌⊎◌, length, get_or, Some, None, sym, refl, ap, ◌∙◌, subst, inl, inr, add-one, arith}
+use Rattle.std.proofs.Common.{◌≡◌, ℕ, zero, suc, ◌+◌, ◌-◌, ◌*◌, ◌/◌, ◌%◌, ◌<◌, ◌≤◌, Bool, true, false, ltb, length, Some, None, sym, refl, ap, ◌∙◌, subst, inl, inr, add-one, arith}
 use Rattle.std.proofs.lemmas.Bool.{cases_lt, cases_eq, lt-ltb, le-ltb, cond-true, cond-false}
 use Rattle.structure.specs.Groups.{◌∈◌}
 use Rattle.structure.specs.Meanings.{Meaning, Laws}
@@ -9,7 +9,7 @@ use Rattle.rounds.specs.Rounds.{first, or_else, has_enough, weighty, polled, con
 use Rattle.rounds.specs.Slots.{Stage, speaks, lead_of, rounds, ended, next, after}
 use Rattle.rounds.specs.Slots.Stage.{poll, confirm, lead, closed}
 use Rattle.rounds.specs.Agreement.{Holds, stage, HeardTruly, Agree, SlotAgrees}
-use Rattle.rounds.proofs.Words.{some_same, none_some, first_fits, heard_at, heard_fits}
+use Rattle.rounds.proofs.Words.{some_same, first_fits, heard_at, heard_fits}
 use Rattle.rounds.proofs.Phases.{Told, Fitting, One, All, told_heard, one_polled, sure_confirmed, all_enough, all_polled, all_confirmed, led_taken}
 
 -- the round with which phase k begins

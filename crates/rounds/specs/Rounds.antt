@@ -1,5 +1,5 @@
 -- What the three rounds of a phase make of a row, in which unfit values count as nothing already.
-use Rattle.std.specs.Prelude.{◌≡◌, ℕ, ◌-◌, ◌<◌, Bool, true, false, cond, not, List, [], ◌∷◌, Some, None}
+use Rattle.std.specs.Prelude.{ℕ, ◌-◌, Bool, cond, not, [], ◌∷◌, Some, None}
 use Rattle.structure.specs.Groups.{everyone}
 use Rattle.structure.specs.Meanings.{Meaning}
 use Rattle.duty.specs.Codes.{Code}

@@ -1,5 +1,5 @@
 -- Groups as numbers, bit by bit: what the operators on numbers say of membership.
-use Rattle.std.proofs.Common.{◌≡◌, ℕ, zero, suc, ◌+◌, ◌-◌, ◌*◌, ◌/◌, ◌%◌, ◌^◌, ◌<◌, ◌≤◌, min, Bool, true, false, not, ◌&&◌, ◌||◌, eqb, ◌⊎◌, Decides, sym, refl, ap, ◌∙◌, inl, inr, suc-le-suc, mod-eq_of_lt, pow-suc, div-one, one-add, arith, pow_mono}
+use Rattle.std.proofs.Common.{◌≡◌, ℕ, zero, suc, ◌*◌, ◌/◌, ◌%◌, ◌^◌, ◌<◌, ◌≤◌, min, false, not, ◌&&◌, ◌||◌, eqb, Decides, sym, refl, ap, ◌∙◌, inl, inr, suc-le-suc, mod-eq_of_lt, pow-suc, div-one, one-add, arith, pow_mono}
 use native.Mathlib.Nat.{div-eq_of_lt, zero-div}
 use lib.Bits.{bit_and, and_step, and_zero_l}
 use Rattle.std.proofs.lemmas.Nat.{pow_pos, shr-shr, and_shr, and_le_l, and_mask, mod_below}

@@ -1,5 +1,5 @@
 -- A group made of a decided predicate, and a search below a bound.
-use Rattle.std.proofs.Common.{◌≡◌, ℕ, zero, suc, ◌+◌, ◌*◌, ◌/◌, ◌%◌, ◌^◌, ◌<◌, ◌⊎◌, sym, ap, ◌∙◌, subst, inl, inr, pow-suc, arith}
+use Rattle.std.proofs.Common.{◌≡◌, ℕ, zero, suc, ◌+◌, ◌*◌, ◌/◌, ◌%◌, ◌^◌, ◌<◌, ◌⊎◌, sym, ◌∙◌, subst, inl, inr, pow-suc, arith}
 use mathlib.Core.Logic.Dec
 use mathlib.Core.Logic.{ite, if_pos}
 use native.Mathlib.Decide.{ℕ_discrete}

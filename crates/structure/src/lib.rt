@@ -1,6 +1,8 @@
 //! A yard is a set of 1 to 16 controllers that are to agree. A structure says which groups of them are enough to decide, and
 //! which controllers lead, one after another, the phases in which they agree.
 
+#![tactic(auto)]
+
 ghost use Rattle.std.specs.Prelude.{◌≡◌, ℕ, ◌^◌, ◌<◌, ◌≤◌, false};
 ghost use Rattle.std.specs.List.{slice_get};
 ghost use Rattle.structure.specs.Groups.{has, within, everyone, yard_size, NoYardSize};
