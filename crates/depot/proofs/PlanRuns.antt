@@ -24,15 +24,15 @@ more : (fits : Bool) (old : ℕ) (plan : Code) (taken : List Code) → first_or 
 more true old plan taken = sym (firstOr_push old (reverse taken) plan) ∙ ap (first_or old) (sym (reverse-cons plan taken))
 more false old plan taken = refl
 
-from_all : (highest in-force : ℕ) (values : List Code) → after fitting step highest in-force values ≡ first_or in-force (reverse (taken fitting step highest in-force values))
-from_all highest in-force [] = refl
-from_all highest in-force (v ∷ vs) =
-    let between = next fitting step highest in-force v in
-    from_all highest between vs ∙ more (fitting highest v) in-force v (taken fitting step highest between vs)
+from_all : (highest in_force : ℕ) (values : List Code) → after fitting step highest in_force values ≡ first_or in_force (reverse (taken fitting step highest in_force values))
+from_all highest in_force [] = refl
+from_all highest in_force (v ∷ vs) =
+    let between = next fitting step highest in_force v in
+    from_all highest between vs ∙ more (fitting highest v) in_force v (taken fitting step highest between vs)
 
 -- a new book keeps its law over every run of steps
-pub new_keeps : (highest in-force : ℕ) → in-force ≡ 0 → (values : List Code) → Kept (taken fitting step highest in-force values) (after fitting step highest in-force values)
-new_keeps highest in-force new values =
-    from_all highest in-force values
-    ∙ ap (λ x. first_or x (reverse (taken fitting step highest in-force values))) new
-    ∙ firstOr_none (reverse (taken fitting step highest in-force values))
+pub new_keeps : (highest in_force : ℕ) → in_force ≡ 0 → (values : List Code) → Kept (taken fitting step highest in_force values) (after fitting step highest in_force values)
+new_keeps highest in_force new values =
+    from_all highest in_force values
+    ∙ ap (λ x. first_or x (reverse (taken fitting step highest in_force values))) new
+    ∙ firstOr_none (reverse (taken fitting step highest in_force values))

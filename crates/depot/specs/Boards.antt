@@ -1,5 +1,5 @@
 -- The board: which grants fit it, and what a grant does to it.
-use Rattle.std.specs.Prelude.{ℕ, Bool, cond, ◌&&◌, List, set, replicate, sum, nat_le, nat_lt, slice_index, slice_set}
+use Rattle.std.specs.Prelude.{ℕ, Bool, cond, ◌&&◌, List, replicate, sum, nat_le, nat_lt, slice_index, slice_set}
 use Rattle.duty.specs.Codes.{Code}
 use Rattle.duty.specs.declared.outcomes.Outcome.{Outcome}
 use Rattle.duty.specs.declared.outcomes.Outcome.TheVariants.{Taken, Aside}

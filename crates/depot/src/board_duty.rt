@@ -3,7 +3,7 @@ ghost use Rattle.std.specs.Prelude.{◌≡◌, ℕ, ◌+◌, ◌≤◌, true, Li
 ghost use Rattle.duty.specs.Taking.{Takes};
 ghost use Rattle.duty.specs.declared.outcomes.Outcome.TheVariants.{Aside};
 ghost use Rattle.depot.specs.Bays.{amps_of};
-ghost use Rattle.depot.specs.Boards.{Settings as BoardSettings, fitting as grant-fits, step as grant-step, replaced};
+ghost use Rattle.depot.specs.Boards.{Settings as BoardSettings, fitting as grant_fits, step as grant_step, replaced};
 ghost use Rattle.depot.specs.BoardCalls.{settings_of, content_of, Made};
 ghost use Rattle.depot.specs.Values.{grant_code};
 ghost use Rattle.depot.specs.BoardLaws.{Lasting};
@@ -61,7 +61,7 @@ impl Board {
 
     /// The amps of all bays together with those of the grant's bay replaced.
     fn total_with(&self, grant: &Grant) -> u32
-        requires { grant-fits (settings_of self.now) (grant_code grant.now) ≡ true }
+        requires { grant_fits (settings_of self.now) (grant_code grant.now) ≡ true }
         ensures { result ≡ sum (replaced (content_of self.now) (grant_code grant.now)) }
     {
         self.others(grant) + grant.amps
@@ -69,7 +69,7 @@ impl Board {
 
     /// The amps of all bays together but for the grant's bay.
     fn others(&self, grant: &Grant) -> u32
-        requires { grant-fits (settings_of self.now) (grant_code grant.now) ≡ true }
+        requires { grant_fits (settings_of self.now) (grant_code grant.now) ≡ true }
         ensures value { result + grant.now.amps ≡ sum (replaced (content_of self.now) (grant_code grant.now)) }
         ensures within { result ≤ (settings_of self.now).feed }
     {
@@ -88,16 +88,16 @@ impl Duty for Board {
 
     ghost content = { content_of };
 
-    ghost fitting = { grant-fits };
+    ghost fitting = { grant_fits };
 
-    ghost step = { grant-step };
+    ghost step = { grant_step };
 
     fn fits(&self, grant: &Grant) -> bool {
         grant.bay < self.count && grant.amps <= 1_000
     }
 
     fn take(&mut self, grant: &Grant) -> Result<Outcome, DutyRefusal>
-        ensures takes { Takes settings_of content_of grant-fits grant-step self.old (grant_code grant.now) result self.new }
+        ensures takes { Takes settings_of content_of grant_fits grant_step self.old (grant_code grant.now) result self.new }
         ensures aside { result ≡ Ok (Aside 15) → self.new ≡ self.old }
     {
         if !self.fits(grant) {

@@ -1,4 +1,7 @@
 //! The duties of a bus depot: the board, which grants amps to the charging bays, and the plan book.
+
+#![tactic(auto)]
+
 mod bays;
 mod board_duty;
 mod boards;

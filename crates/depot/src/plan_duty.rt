@@ -1,6 +1,6 @@
 //! The plan book as a duty, and what it shows.
 ghost use Rattle.std.specs.Prelude.{◌≡◌, ℕ};
-ghost use Rattle.depot.specs.Plans.{fitting as plan-fits, step as plan-step};
+ghost use Rattle.depot.specs.Plans.{fitting as plan_fits, step as plan_step};
 ghost use Rattle.depot.specs.PlanCalls.{settings_of, content_of, Made};
 ghost use Rattle.depot.specs.PlanLaws.{Lasting};
 
@@ -50,9 +50,9 @@ impl Duty for PlanBook {
 
     ghost content = { content_of };
 
-    ghost fitting = { plan-fits };
+    ghost fitting = { plan_fits };
 
-    ghost step = { plan-step };
+    ghost step = { plan_step };
 
     fn fits(&self, plan: &Plan) -> bool {
         1 <= plan.0 && plan.0 <= self.highest

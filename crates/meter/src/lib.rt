@@ -1,6 +1,9 @@
 //! A small duty, written out whole to show how one is added: docs/duties.md goes through it.
+
+#![tactic(auto)]
+
 ghost use Rattle.std.specs.Prelude.{[], ◌∷◌, ◌≡◌, ℕ};
-ghost use Rattle.meter.specs.Readings.{fitting as reading-fits, step as Reading-step};
+ghost use Rattle.meter.specs.Readings.{fitting as reading_fits, step as reading_step};
 
 use duty::{Duty, DutyRefusal, Outcome, Same};
 
@@ -51,9 +54,9 @@ impl Duty for Meter {
 
     ghost content = { λ m. m.latest };
 
-    ghost fitting = { reading-fits };
+    ghost fitting = { reading_fits };
 
-    ghost step = { Reading-step };
+    ghost step = { reading_step };
 
     fn fits(&self, reading: &Reading) -> bool {
         reading.0 <= self.limit

@@ -1,9 +1,9 @@
 -- A draft as a wiring: what the tests on its masks say of its sets.
-use Rattle.std.specs.Prelude.{◌≡◌, ℕ, zero, suc, ◌+◌, ◌-◌, ◌^◌, ◌<◌, ◌≤◌, Bool, true, false, ◌↔◌, List, [], ◌∷◌, length, Some, None, bit_and, count_ones, slice_index, refl}
-use Rattle.std.proofs.Common.{sym, subst, ◌∙◌, inl, inr, add-one, arith}
+use Rattle.std.specs.Prelude.{◌≡◌, ℕ, ◌+◌, ◌-◌, ◌^◌, ◌<◌, ◌≤◌, Bool, true, false, ◌↔◌, List, length, Some, None, bit_and, count_ones, slice_index, refl}
+use Rattle.std.proofs.Common.{sym, subst, inl, inr, add-one, arith}
 use Rattle.std.proofs.Math.Logic.{∥∥₁_elim}
 use Rattle.std.proofs.lemmas.Bool.{cases_Bool, false≢true, eq-eqb, ne_eqb}
-use Rattle.structure.specs.Groups.{◌∈◌, everyone, count, Within, within}
+use Rattle.structure.specs.Groups.{everyone, count, Within, within}
 use Rattle.structure.proofs.Bits.{everyone_below, within_decides, meets_and, and_meets, shares_and, and_shares}
 use Rattle.structure.proofs.Members.{ones_count}
 use Rattle.structure.proofs.Masks.{shares?}

@@ -1,7 +1,7 @@
 -- Sealing: what it answers, and what the table then holds.
 --
 -- `n` is the number of controllers of the yard, and `sets` the sets of the draft.
-use Rattle.std.specs.Prelude.{◌≡◌, ℕ, ◌<◌, ◌≤◌, cond, List, length, take, Some, None, Ok, Err, Option, Result, ◌==◌}
+use Rattle.std.specs.Prelude.{◌≡◌, ℕ, ◌<◌, cond, List, length, take, Some, None, Ok, Err, Option, Result, ◌==◌}
 use Rattle.structure.specs.Groups.{◌∈◌, members}
 use Rattle.structure.specs.Meanings.{Meaning}
 use Rattle.cores.specs.Sharing.{ThreesShare, threes_share}

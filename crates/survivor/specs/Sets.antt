@@ -1,5 +1,5 @@
 -- What always holds of the sets of a draft, besides that none is empty and each lies in the yard.
-use Rattle.std.specs.Prelude.{◌≡◌, ℕ, ◌<◌, List, length, ◌≢◌, slice_index}
+use Rattle.std.specs.Prelude.{ℕ, ◌<◌, List, length, ◌≢◌, slice_index}
 use Rattle.structure.specs.Groups.{Within}
 
 -- no set contains or equals another

@@ -1,5 +1,7 @@
 //! Drafts of survivor sets, and the sealed tables that come of them.
 
+#![tactic(auto)]
+
 mod drafts;
 mod refusals;
 mod seals;

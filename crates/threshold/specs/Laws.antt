@@ -1,12 +1,12 @@
 -- The threshold structure keeps the four laws.
-use Rattle.std.specs.Prelude.{◌≡◌, ℕ, zero, suc, ◌+◌, ◌-◌, ◌*◌, ◌/◌, ◌%◌, ◌^◌, ◌<◌, ◌≤◌, true, List, [], ◌∷◌, ◌++◌, length, slice_index, refl}
+use Rattle.std.specs.Prelude.{◌≡◌, ℕ, zero, suc, ◌+◌, ◌-◌, ◌*◌, ◌/◌, ◌%◌, ◌^◌, ◌<◌, ◌≤◌, true, [], ◌∷◌, length, slice_index, refl}
 use Rattle.std.proofs.Common.{sym, subst, ◌∙◌, inl, inr, arith}
 use Rattle.std.proofs.lemmas.Nat.{mod_below}
 use Rattle.std.proofs.lemmas.List.{length_push, get_or_push, get_or_append_left}
 use Rattle.std.proofs.lemmas.Bool.{cases_lt, cases_eq, leb-true, le-leb}
 use Rattle.structure.specs.Groups.{◌∈◌, count, Shares}
 use Rattle.structure.specs.Meanings.{Laws}
-use Rattle.structure.proofs.Members.{count_everyone, count_part, count_few, count_some}
+use Rattle.structure.proofs.Members.{count_everyone, count_part, count_some}
 use Rattle.threshold.specs.Thresholds.{first, threshold}
 
 -- ---- the controllers 0 to k - 1

@@ -1,5 +1,5 @@
 -- The threshold structure: a yard of n controllers of which up to t, fewer than a third, may be faulty.
-use Rattle.std.specs.Prelude.{◌≡◌, ℕ, zero, suc, ◌+◌, ◌-◌, ◌*◌, ◌<◌, ◌≤◌, cond, List, [], ◌∷◌, ◌++◌, nat_le}
+use Rattle.std.specs.Prelude.{ℕ, zero, suc, ◌+◌, ◌-◌, ◌*◌, ◌<◌, ◌≤◌, cond, List, [], ◌∷◌, ◌++◌, nat_le}
 use Rattle.structure.specs.Groups.{count, yard_size, NoYardSize}
 use Rattle.structure.specs.Meanings.{Meaning}
 use Rattle.threshold.specs.declared.thresholds.Threshold.{Threshold}

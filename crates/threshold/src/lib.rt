@@ -1,5 +1,7 @@
 //! The threshold structure: a yard in which at most `t` of `n` controllers are faulty, whichever they are.
 
+#![tactic(auto)]
+
 mod methods;
 mod refusals;
 mod thresholds;

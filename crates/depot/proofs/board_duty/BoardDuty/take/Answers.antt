@@ -9,13 +9,19 @@ use Rattle.depot.proofs.BayLists.{amps_set, unused_set}
 use Rattle.depot.proofs.Steps.{step_within}
 use Rattle.depot.proofs.board_duty.BoardDuty.take.Goals as goal
 
-pub invariant-of-self : goal.invariant-of-self
-invariant-of-self c =
+pub invariant_of-self : goal.invariant_of-self
+invariant_of-self c =
     let board = c.args.self.now in
     let grant = c.args.grant.now in
     let inside : grant.bay < board.count = grind (arith, nat_tests) in
-    let changed = ap sum (amps_set board.count board.bays.records c.set-amps.new.self.records grant.bay grant.amps inside c.set-amps.ensures.this_bay) in
-    (board.some, (board.few, (board.rated, (omega arith, (unused_set board.count board.bays.records c.set-amps.new.self.records grant.bay (record { amps = grant.amps }) inside c.set-amps.ensures.this_bay ∙ board.unused, tt)))))
+    let changed = ap sum (amps_set board.count board.bays.records c.set_amps.new.self.records grant.bay grant.amps inside c.set_amps.ensures.this_bay) in
+    record {
+      some = board.some;
+      few = board.few;
+      rated = board.rated;
+      within = omega arith;
+      unused = unused_set board.count board.bays.records c.set_amps.new.self.records grant.bay (record { amps = grant.amps }) inside c.set_amps.ensures.this_bay ∙ board.unused;
+    }
 
 pub returns : goal.returns
 returns c =
@@ -28,7 +34,7 @@ returns c =
     record {
       takes = record {
         same_settings = refl;
-        fit_content = λ _. amps_set board.count board.bays.records c.set-amps.new.self.records grant.bay grant.amps inside c.set-amps.ensures.this_bay ∙ sym (ap (λ (p : List ℕ × Outcome). p.0) stepped);
+        fit_content = λ _. amps_set board.count board.bays.records c.set_amps.new.self.records grant.bay grant.amps inside c.set_amps.ensures.this_bay ∙ sym (ap (λ (p : List ℕ × Outcome). p.0) stepped);
         fit_outcome = λ _. sym (ap (λ (p : List ℕ × Outcome). Ok p.1) stepped);
         unfit_refused = λ unfit. absurd (both_ways (fitting s (grant_code grant)) unfit fits);
         unfit_unchanged = λ unfit. absurd (both_ways (fitting s (grant_code grant)) unfit fits);

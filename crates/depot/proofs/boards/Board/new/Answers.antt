@@ -8,11 +8,11 @@ use Rattle.depot.proofs.BoardRuns.{new_keeps}
 use Rattle.depot.proofs.BayLists.{amps_new, sum_zeros, unused_new}
 use Rattle.depot.proofs.boards.Board.new.Goals as goal
 
-pub invariant-of-result : goal.invariant-of-result
-invariant-of-result c =
+pub invariant_of-result : goal.invariant_of-result
+invariant_of-result c =
     let few : c.args.bays ≤ 64 = omega arith in
     let zero-sum = ap sum (amps_new c.args.bays c.new.result.records few c.new.ensures) ∙ sum_zeros c.args.bays in
-    (omega arith, (few, (omega arith, (omega arith, (unused_new c.args.bays c.new.result.records c.new.ensures, tt)))))
+    record { some = omega arith; few = few; rated = omega arith; within = omega arith; unused = unused_new c.args.bays c.new.result.records c.new.ensures }
 
 pub returns : goal.returns
 returns c =

@@ -3,8 +3,8 @@ use Rattle.std.proofs.lemmas.Bool.Decides.{nat_tests}
 use Rattle.depot.proofs.BayLists.{amps_le_sum, sum_set}
 use Rattle.depot.proofs.boards.Board.others.Goals as goal
 
-pub overflow-sub-result : goal.overflow-sub-result
-overflow-sub-result c =
+pub overflow_sub-result : goal.overflow_sub-result
+overflow_sub-result c =
     let board = c.args.self.now in
     let grant = c.args.grant.now in
     let inside : grant.bay < board.count = grind (arith, nat_tests) in

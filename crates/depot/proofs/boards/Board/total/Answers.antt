@@ -4,8 +4,8 @@ use Rattle.depot.specs.Bays.{amps_of}
 use Rattle.depot.proofs.BayLists.{sum_more, sum_take_le}
 use Rattle.depot.proofs.boards.Board.total.Goals as goal
 
-pub overflow-add-total : goal.overflow-add-total
-overflow-add-total c =
+pub overflow_add-total : goal.overflow_add-total
+overflow_add-total c =
     let bays = c.bays-bay-items.result.now in
     let i = c.loop-bay.bay-index in
     let more = sum_more bays i (record { amps = 0 }) c.loop-bay-test.true in

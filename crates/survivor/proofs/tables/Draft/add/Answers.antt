@@ -19,18 +19,18 @@ found : (d : Draft) (xs : List ℕ) (s : ℕ) (o : Option ℕ) → xs ≡ sets_o
 found d xs s o e m f =
     ap (λ v. first_comparable d.size 1 v s) (sym e) ∙ sym (f d.size (subst (λ v. Inside d.size v) (sym e) d.inside) (placed_below d.size s m).1)
 
-pub returns-then-is-full : goal.returns-then-is-full
-returns-then-is-full c =
+pub returns-then-is_full : goal.returns-then-is_full
+returns-then-is_full c =
     let d = c.args.self.now in
     let m = sym c.if-misplaced.ensures in
-    let full : length (sets_of d) ≡ 64 = omega (arith, length-take d.count d.sets, leb-true 64 (length (sets_of d)) (sym c.if-is-full.ensures)) in
+    let full : length (sets_of d) ≡ 64 = omega (arith, length-take d.count d.sets, leb-true 64 (length (sets_of d)) (sym c.if-is_full.ensures)) in
     record { answer = adding_full d.size (sets_of d) c.args.set m full; reason = (placed_proper d.size c.args.set m, full); after = search rules }
 
 pub returns-in-Some : goal.returns-in-Some
 returns-in-Some c =
     let d = c.args.self.now in
     let m = sym c.if-misplaced.ensures in
-    let room = leb-false 64 (length (sets_of d)) (sym c.if-is-full.ensures) in
+    let room = leb-false 64 (length (sets_of d)) (sym c.if-is_full.ensures) in
     let e = found d c.sets.result.now c.args.set (Some c.in-Some.place) c.sets.ensures m c.in-Some.ensures in
     let (place, ordered, first) = first_ordered d.size c.args.set (sets_of d) c.in-Some.place e in
     record {
@@ -39,36 +39,29 @@ returns-in-Some c =
       after = search rules;
     }
 
-pub invariant-of-self : goal.invariant-of-self
-invariant-of-self c =
+pub invariant_of-self : goal.invariant_of-self
+invariant_of-self c =
     let d = c.args.self.now in
     let s = c.args.set in
-    let room : d.count < length d.sets = omega (arith, length-take d.count d.sets, leb-false 64 (length (sets_of d)) (sym c.if-is-full.ensures)) in
+    let room : d.count < length d.sets = omega (arith, length-take d.count d.sets, leb-false 64 (length (sets_of d)) (sym c.if-is_full.ensures)) in
     let m = sym c.if-misplaced.ensures in
-    let (some, below) = placed_below d.size s m in (
-      search rules,
-      (
-        search rules,
-        (
-          search rules,
-          (
-            peopled_more d.sets d.count s room d.peopled some,
-            (
-              inside_more d.sets d.count s room d.size d.inside below,
-              (unordered_more d.sets d.count s room d.size d.unordered (found d c.sets.result.now s None c.sets.ensures m c.in-default.ensures), tt),
-            ),
-          ),
-        ),
-      ),
-    )
+    let (some, below) = placed_below d.size s m in
+    record {
+      low = search rules;
+      high = search rules;
+      few = search rules;
+      peopled = peopled_more d.sets d.count s room d.peopled some;
+      inside = inside_more d.sets d.count s room d.size d.inside below;
+      unordered = unordered_more d.sets d.count s room d.size d.unordered (found d c.sets.result.now s None c.sets.ensures m c.in_default.ensures);
+    }
 
 pub returns : goal.returns
 returns c =
     let d = c.args.self.now in
     let s = c.args.set in
     let m = sym c.if-misplaced.ensures in
-    let room = leb-false 64 (length (sets_of d)) (sym c.if-is-full.ensures) in
-    let e = found d c.sets.result.now s None c.sets.ensures m c.in-default.ensures in
+    let room = leb-false 64 (length (sets_of d)) (sym c.if-is_full.ensures) in
+    let e = found d c.sets.result.now s None c.sets.ensures m c.in_default.ensures in
     record {
       answer = adding_placed d.size (sets_of d) s None m room e;
       reason = record { proper = placed_proper d.size s m; room = room; unordered = none_ordered d.size s (sets_of d) e };

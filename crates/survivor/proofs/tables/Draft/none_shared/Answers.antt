@@ -1,5 +1,4 @@
 use Rattle.std.proofs.Common.{arith, below_more}
-use Rattle.survivor.specs.Drafts.{size_of, sets_of}
 use Rattle.survivor.specs.Sealing.{none_shared, and_threes}
 use Rattle.survivor.proofs.tables.Draft.none_shared.Goals as goal
 

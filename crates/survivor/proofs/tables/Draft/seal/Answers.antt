@@ -7,10 +7,10 @@ use Rattle.survivor.specs.Drafts.{sets_of}
 use Rattle.survivor.specs.Sealing.{by_splits, sealing_empty, empty_refused, sealing_none, none_refused, sealing_done, done_sealed, threes_sharing, wiring}
 use Rattle.survivor.proofs.tables.Draft.seal.Goals as goal
 
-pub returns-then-is-empty : goal.returns-then-is-empty
-returns-then-is-empty c =
+pub returns-then-is_empty : goal.returns-then-is_empty
+returns-then-is_empty c =
     let d = c.args.self.now in
-    let e : length (sets_of d) ≡ 0 = ap length (sym c.sets.ensures) ∙ eqb-true (length c.sets.result.now) 0 (sym c.if-is-empty.ensures) in
+    let e : length (sets_of d) ≡ 0 = ap length (sym c.sets.ensures) ∙ eqb-true (length c.sets.result.now) 0 (sym c.if-is_empty.ensures) in
     record {
       answer = sealing_empty d.size (sets_of d) e;
       reason = e;
@@ -38,34 +38,31 @@ returns-in-Some c =
 some_set : (xs ys : List ℕ) → xs ≡ ys → false ≡ eqb (length xs) 0 → 0 < length ys
 some_set xs ys e t = let ne = eqb-false (length xs) 0 (sym t) in let h = ap length e in elim (cases_lt 0 (length ys)) [ inl l ↦ l | inr z ↦ absurd (ne (omega arith)) ]
 
-pub leading-core-requires : goal.leading-core-requires
-leading-core-requires c = some_set c.sets.result.now (sets_of c.args.self.now) c.sets.ensures c.if-is-empty.ensures
+pub leading_core-requires : goal.leading_core-requires
+leading_core-requires c = some_set c.sets.result.now (sets_of c.args.self.now) c.sets.ensures c.if-is_empty.ensures
 
-pub invariant-of-table : goal.invariant-of-table
-invariant-of-table c =
-    let d = c.args.self.now in (
-      search rules,
-      (
-        some_set c.sets.result.now (sets_of d) c.sets.ensures c.if-is-empty.ensures,
-        (
-          threes_sharing d.size (sets_of d) c.in-default.ensures,
-          (c.list-members-phases.ensures.0 ∙ ap (members d.size) c.leading_core.ensures, tt),
-        ),
-      ),
-    )
+pub invariant_of-table : goal.invariant_of-table
+invariant_of-table c =
+    let d = c.args.self.now in
+    record {
+      fit = search rules;
+      some = some_set c.sets.result.now (sets_of d) c.sets.ensures c.if-is_empty.ensures;
+      sharing = threes_sharing d.size (sets_of d) c.in_default.ensures;
+      led = c.list_members-phases.ensures.0 ∙ ap (members d.size) c.leading_core.ensures;
+    }
 
 pub returns : goal.returns
 returns c =
     let d = c.args.self.now in
-    let some = some_set c.sets.result.now (sets_of d) c.sets.ensures c.if-is-empty.ensures in
-    let threes = c.in-default.ensures in
+    let some = some_set c.sets.result.now (sets_of d) c.sets.ensures c.if-is_empty.ensures in
+    let threes = c.in_default.ensures in
     let done = done_sealed d.size (sets_of d) some threes in
     record {
       answer = sealing_done d.size (sets_of d) some threes;
       reason = record { some = some; threes = threes };
       after = record {
         copied = refl;
-        leads = c.list-members-phases.ensures.0 ∙ ap (members d.size) c.leading_core.ensures;
+        leads = c.list_members-phases.ensures.0 ∙ ap (members d.size) c.leading_core.ensures;
         leading = leading_leads d.size (sets_of d) (wiring d some);
       };
       threes = done;

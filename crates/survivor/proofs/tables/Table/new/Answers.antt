@@ -3,5 +3,6 @@ use Rattle.cores.proofs.Tests.{threes_share_decides}
 use Rattle.survivor.specs.Sealing.{threes_sharing}
 use Rattle.survivor.proofs.tables.Table.new.Goals as goal
 
-pub invariant-of-result : goal.invariant-of-result
-invariant-of-result c = (omega arith, (omega arith, (threes_sharing 1 (1 ∷ []) ((threes_share_decides 1 (1 ∷ [])).0 refl), (refl, tt))))
+pub invariant_of-result : goal.invariant_of-result
+invariant_of-result c =
+    record { fit = omega arith; some = omega arith; sharing = threes_sharing 1 (1 ∷ []) ((threes_share_decides 1 (1 ∷ [])).0 refl); led = refl }

@@ -1,4 +1,4 @@
-use Rattle.std.proofs.Common.{suc, ◌<◌, length, Some, sym, ap, ◌∙◌, arith}
+use Rattle.std.proofs.Common.{suc, Some, sym, ap, ◌∙◌, arith}
 use Rattle.std.proofs.lemmas.Option.{slice_get-get_or, slice_get_past}
 use Rattle.threshold.specs.Thresholds.{first}
 use Rattle.threshold.specs.Laws.{first_length, first_at}
