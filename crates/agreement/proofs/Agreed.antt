@@ -1,5 +1,5 @@
 -- Members of an enough group that hear each other truly close each slot with one value, so that all they hold is the same.
-use Rattle.std.proofs.Common.{◌≡◌, ℕ, zero, suc, ◌+◌, ◌-◌, ◌*◌, ◌/◌, ◌%◌, ◌<◌, ◌≤◌, Bool, true, false, cond, ltb, ◌⊎◌, List, [], ◌∷◌, ◌++◌, map, length, Some, Option, sym, refl, ap, ◌∙◌, subst, inl, inr, arith}
+use Rattle.std.proofs.Common.{◌≡◌, ℕ, ◌+◌, ◌-◌, ◌*◌, ◌/◌, ◌%◌, ◌<◌, ◌≤◌, Bool, true, cond, ltb, List, [], ◌∷◌, length, Some, Option, sym, refl, ap, ◌∙◌, subst, inl, inr, arith}
 use Rattle.std.proofs.lemmas.Bool.{cases_lt, lt-ltb, le-ltb, cond-true, cond-false}
 use Rattle.structure.specs.Groups.{◌∈◌}
 use Rattle.structure.specs.Meanings.{Meaning, Laws}
@@ -20,7 +20,7 @@ use Rattle.agreement.specs.Histories.{History, accepted, row, answer, pending_at
 use Rattle.agreement.specs.Lives.{content_by, Stepped, Life, SpeaksAfter, HearTruly, Agrees, Keeps}
 use Rattle.agreement.proofs.Divisions.{inside, slots_within}
 use Rattle.agreement.proofs.Older.{accepted_older, row_older, pending_older}
-use Rattle.agreement.proofs.Tracks.{values_of, values_same, value_codes, R_some, begin, slot, value, given, PastOf, StandingOf, track_run, track}
+use Rattle.agreement.proofs.Tracks.{values_of, values_same, value_codes, R_some, value, given, PastOf, StandingOf, track_run, track}
 
 -- closed values determine their outcomes
 stepped_same : {D V : Type 0} (G : Duty D V) (σ : G.Settings) (k : G.Content) (xs ys : List (Code × Outcome)) → Stepped G σ k xs → Stepped G σ k ys → value_codes xs ≡ value_codes ys → xs ≡ ys

@@ -1,5 +1,5 @@
 -- What later calls leave of a history.
-use Rattle.std.proofs.Common.{◌≡◌, ℕ, suc, ◌+◌, ◌<◌, ◌≤◌, cond, eqb, List, [], ◌∷◌, ◌++◌, Some, Ok, Err, Option, refl, ◌∙◌, arith}
+use Rattle.std.proofs.Common.{◌≡◌, ℕ, suc, ◌<◌, ◌≤◌, eqb, [], ◌∷◌, ◌++◌, Some, Ok, Err, refl, ◌∙◌, arith}
 use Rattle.std.proofs.lemmas.Bool.{ne_eqb, cond-false}
 use Rattle.agreement.specs.Histories.{Event, offered, spoke, heard, History, accepted, row, answer, pending, pending_at}
 

@@ -1,12 +1,11 @@
 -- Which drafts a round rule can serve is what sealing answers.
-use Rattle.std.proofs.Common.{◌≡◌, ℕ, ◌<◌, Bool, true, false, cond, eqb, ◌↔◌, List, length, is_ok, Some, None, Ok, Err, Option, Result, sym, refl, ap, ◌∙◌, subst, inl, inr, arith}
+use Rattle.std.proofs.Common.{◌≡◌, ℕ, ◌<◌, true, false, ◌↔◌, List, length, is_ok, Some, Ok, Err, Result, sym, refl, ap, ◌∙◌, subst, inl, inr, arith}
 use Rattle.std.proofs.lemmas.Bool.{cases_Bool, ne_eqb, false≢true}
 use Rattle.cores.specs.Sharing.{ThreesShare, threes_share}
 use Rattle.cores.specs.Leads.{table, Wiring}
 use Rattle.cores.proofs.Tests.{threes_share_decides}
 use Rattle.survivor.specs.Drafts.{size_of, sets_of}
-use Rattle.survivor.specs.Refusals.{number}
-use Rattle.survivor.specs.Seals.{draft_of, meaning_of, refused_with, sealing, NothingShared, Reason, Writes, SealedFrom}
+use Rattle.survivor.specs.Seals.{refused_with, sealing, NothingShared, Reason, Writes}
 use Rattle.survivor.specs.declared.refusals.DraftRefusal.{DraftRefusal}
 use Rattle.survivor.specs.declared.refusals.DraftRefusal.TheVariants.{NoneShared}
 use Rattle.survivor.specs.declared.tables.Draft.{Draft}

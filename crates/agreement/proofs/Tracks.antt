@@ -1,27 +1,24 @@
 -- What a life keeps, call by call: where its slot stands, what it closed, and what its duty made of that.
-use Rattle.std.proofs.Common.{◌≡◌, ℕ, zero, suc, ◌+◌, ◌-◌, ◌*◌, ◌/◌, ◌%◌, ◌<◌, ◌≤◌, Bool, true, false, cond, eqb, ◌⊎◌, List, [], ◌∷◌, map, length, Some, None, Ok, Err, Option, Result, sym, refl, ap, ◌∙◌, subst, inl, inr, arith}
+use Rattle.std.proofs.Common.{◌≡◌, ℕ, zero, suc, ◌+◌, ◌-◌, ◌*◌, ◌/◌, ◌%◌, ◌<◌, ◌≤◌, Bool, true, false, cond, eqb, List, [], ◌∷◌, map, length, Some, Ok, Err, Option, sym, refl, ap, ◌∙◌, subst, inl, inr, arith}
 use native.Mathlib.Decide.{ℕ_discrete}
 use lib.ListN.{length-map}
-use Rattle.std.proofs.lemmas.Bool.{cases_lt, cases_eq, cases_Bool, eq-eqb, cond-true, both_ways}
+use Rattle.std.proofs.lemmas.Bool.{cases_lt, cases_eq, cases_Bool, eq-eqb, cond-true}
 use Rattle.structure.specs.Meanings.{Meaning, Laws}
 use Rattle.structure.specs.declared.Structure.{Ghosts as Structure}
 use Rattle.duty.specs.Codes.{Code}
-use Rattle.duty.specs.Taking.{Takes}
 use Rattle.duty.specs.declared.duties.Duty.{Ghosts as Duty}
 use Rattle.duty.specs.declared.values.Same.{Ghosts as Same}
 use Rattle.duty.specs.declared.outcomes.Outcome.{Outcome}
-use Rattle.duty.specs.declared.refusals.DutyRefusal.{DutyRefusal}
 use Rattle.rounds.specs.Rows as rows
-use Rattle.rounds.specs.Slots.{Stage, rounds, next, after}
-use Rattle.rounds.specs.Slots.Stage.{poll, confirm, lead, closed}
-use Rattle.rounds.proofs.Slots.{Open, polling, confirming, leading, after_open, slot_value, after_closed, slot_value_fits, after_same}
-use Rattle.engine.specs.Controllers.{stage_of, runs_on, fits_on, due}
-use Rattle.engine.specs.Promises.{Opened, Offers, Speaks, Hears, Moves, Goes_on, Closes, Settles, outcome_of}
+use Rattle.rounds.specs.Slots.{rounds, next, after}
+use Rattle.rounds.specs.Slots.Stage.{poll, closed}
+use Rattle.rounds.proofs.Slots.{polling, confirming, leading, after_open, slot_value, after_closed, slot_value_fits, after_same}
+use Rattle.engine.specs.Controllers.{stage_of, runs_on, fits_on}
+use Rattle.engine.specs.Promises.{Opened, Hears, Moves, Closes, outcome_of}
 use Rattle.engine.specs.Words.{word_code, codes}
 use Rattle.engine.specs.declared.controllers.Controller.{Controller}
 use Rattle.engine.specs.declared.controllers.Heard.{Heard}
 use Rattle.engine.specs.declared.controllers.Heard.TheVariants.{Round, Closed}
-use Rattle.engine.specs.declared.refusals.RowRefusal.{RowRefusal}
 use Rattle.agreement.specs.Histories.{Event, offered, spoke, heard, History, accepted, row, answer, pending, pending_at, closings}
 use Rattle.agreement.specs.Lives.{content_by, Stepped, Promised, Run, rests, goes, Life, Lived}
 use Rattle.agreement.proofs.Divisions.{split, below, inside, more, last, whole_slots, slots_within}

@@ -1,5 +1,5 @@
 -- Lives of actual controllers, and what is promised of one and of those that hear each other truly.
-use Rattle.std.specs.Prelude.{◌≡◌, ℕ, ◌+◌, ◌-◌, ◌*◌, ◌/◌, ◌%◌, ◌<◌, ◌≤◌, Bool, true, List, [], ◌∷◌, ◌++◌, length, Some, Option}
+use Rattle.std.specs.Prelude.{◌≡◌, ℕ, ◌+◌, ◌-◌, ◌*◌, ◌/◌, ◌%◌, ◌<◌, ◌≤◌, true, List, [], ◌∷◌, ◌++◌, length, Some, Option}
 use Rattle.structure.specs.Groups.{◌∈◌}
 use Rattle.structure.specs.Meanings.{Meaning}
 use Rattle.structure.specs.declared.Structure.{Ghosts as Structure}

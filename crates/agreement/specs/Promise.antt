@@ -1,5 +1,5 @@
 -- All that sealing a draft promises: of the draft and the table, of every round rule, and of all controllers.
-use Rattle.std.specs.Prelude.{◌≡◌, ℕ, ◌<◌, List, length, Some, Ok, Err, Result, ◌≢◌}
+use Rattle.std.specs.Prelude.{◌≡◌, ℕ, ◌<◌, length, Some, Ok, Err, Result, ◌≢◌}
 use Rattle.structure.specs.Meanings.{Meaning}
 use Rattle.structure.specs.declared.Structure.{Ghosts as Structure}
 use Rattle.duty.specs.declared.duties.Duty.{Ghosts as Duty}

@@ -1,5 +1,7 @@
 //! Sealing a draft, with the whole promise of agreement on its contract.
 
+#![tactic(auto)]
+
 ghost use Rattle.std.specs.Prelude.{[], ◌∷◌};
 ghost use Rattle.cores.specs.Leads.{table};
 ghost use Rattle.rules.specs.Own.{own_rule};
@@ -28,7 +30,7 @@ pub fn seal_agreed<R: RoundRule, S: Structure, D: Duty>(
     draft: &Draft,
     table: &mut Table,
 ) -> Result<(), DraftRefusal>
-    ensures { Promise R.RoundRule.rule S.Structure D.Duty Value-as-Same draft.now table.old result table.new }
+    ensures { Promise R.RoundRule.rule S.Structure D.Duty D.Value.Same draft.now table.old result table.new }
 {
     draft.seal(table)
 }

@@ -1,5 +1,5 @@
 -- What a hearing promises, from what the checked row and its stage say.
-use Rattle.std.proofs.Common.{◌≡◌, ℕ, List, length, Ok, Option, sym, refl, ap, ◌∙◌, subst}
+use Rattle.std.proofs.Common.{◌≡◌, List, length, Ok, Option, sym, refl, ap, ◌∙◌, subst}
 use Rattle.structure.specs.declared.Structure.{Ghosts as Structure}
 use Rattle.duty.specs.declared.duties.Duty.{Ghosts as Duty}
 use Rattle.duty.specs.declared.values.Same.{Ghosts as Same}
@@ -13,7 +13,7 @@ use Rattle.engine.specs.Promises.{Moves, Hears}
 use Rattle.engine.specs.Rows.{meaning_of, heard_row, fits_in, Whole}
 use Rattle.engine.specs.Words.{codes}
 
-module _ {S D V : Type 0} (M : Structure S) (G : Duty D V) (K : Same V) (c c' : Controller S D V) (words : List (Option V)) (row : Row S D V)
+module _ {S D V : Type 0} (M : Structure S) (G : Duty D V) (K : Same V) (c c' : Controller S D V) (words : List (Option V)) (row : Row S D V M G K)
     (parts : (row.structure.now ≡ c.structure) × (row.duty.now ≡ c.duty) × (row.words.now ≡ words) × Whole M row)
     (structure : c'.structure ≡ c.structure) (pending : c'.pending ≡ c.pending) where
   -- the row is that of the controller's own structure, duty and words

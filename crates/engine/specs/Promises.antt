@@ -1,8 +1,8 @@
 -- What each call of a controller promises. The runs of which the agreement speaks are linked by exactly these.
-use Rattle.std.specs.Prelude.{◌≡◌, ℕ, Bool, true, false, List, [], length, Ok, Err, Option, Result, ◌≢◌}
+use Rattle.std.specs.Prelude.{◌≡◌, true, false, List, [], length, Ok, Err, Option, Result, ◌≢◌}
 use Rattle.structure.specs.declared.Structure.{Ghosts as Structure}
 use Rattle.duty.specs.Codes.{Code}
-use Rattle.duty.specs.Refusals as duty-refusals
+use Rattle.duty.specs.Refusals as DutyRefusals
 use Rattle.duty.specs.Taking.{Takes}
 use Rattle.duty.specs.declared.duties.Duty.{Ghosts as Duty}
 use Rattle.duty.specs.declared.values.Same.{Ghosts as Same}
@@ -27,7 +27,7 @@ use Rattle.engine.specs.Words.{word_code, codes}
 -- refused: whoever seals a table is promised that each fits)
 abbrev pub outcome_of : Result Outcome DutyRefusal → Outcome
 outcome_of (Ok o) = o
-outcome_of (Err e) = Aside (duty-refusals.number e)
+outcome_of (Err e) = Aside (DutyRefusals.number e)
 
 -- the duty d is given the value v and is d' then; the outcome is o
 pub record Settles {D V : Type 0} (G : Duty D V) (d : D) (v : Code) (o : Outcome) (d' : D) : Type 0 where
@@ -50,8 +50,8 @@ module _ {S D V : Type 0} (M : Structure S) (G : Duty D V) (K : Same V) where
     pub unfit : fits_in G d (K.code v) ≡ false
     pub structure : u.structure ≡ s
     pub duty : u.duty ≡ d
-    pub number : duty-refusals.number u.refusal ≡ 4
-    pub values : duty-refusals.values u.refusal ≡ []
+    pub number : DutyRefusals.number u.refusal ≡ 4
+    pub values : DutyRefusals.values u.refusal ≡ []
 
   abbrev pub Opens : S → D → V → Result (Controller S D V) (Unopened S D) → Type 0
   Opens s d v (Ok c) = Opened s d v c
@@ -67,7 +67,7 @@ module _ {S D V : Type 0} (M : Structure S) (G : Duty D V) (K : Same V) where
     pub stage : stage_of K c' ≡ stage_of K c
     pub taken : fits_on G c (K.code v) ≡ true → (r ≡ Ok tt) × (c'.pending ≡ v)
     -- an unfit one is refused with 4, and the whole controller stays
-    pub refused : fits_on G c (K.code v) ≡ false → duty-refusals.Refused 4 [] r × (c' ≡ c)
+    pub refused : fits_on G c (K.code v) ≡ false → DutyRefusals.Refused 4 [] r × (c' ≡ c)
 
   -- ---- speaking
   abbrev pub Speaks : Controller S D V → Option V → Type 0

@@ -4,6 +4,8 @@
 //! A slot begins with `Poll::open`. Each stage speaks one word and hears one row, is used up by it and gives the next stage.
 //! What a stage gives is `next` of the rounds' definitions, which know values by their codes alone.
 
+#![tactic(auto)]
+
 mod controllers;
 mod controlling;
 mod hearings;

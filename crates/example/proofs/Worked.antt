@@ -1,5 +1,5 @@
 -- A yard of four with a liar, worked out: three plan books, six rows, and controller 3 telling each of them another plan.
-use Rattle.std.proofs.Common.{◌≡◌, ℕ, zero, suc, ◌+◌, ◌<◌, ◌≤◌, min, Bool, true, false, cond, eqb, ltb, List, [], ◌∷◌, ◌++◌, map, length, get_or, Some, None, Ok, Option, sym, refl, ap, ◌∙◌, subst, inl, inr, true≢false, arith, lit<, lit≤}
+use Rattle.std.proofs.Common.{◌≡◌, ℕ, zero, suc, ◌<◌, ◌≤◌, min, Bool, true, cond, eqb, ltb, List, [], ◌∷◌, ◌++◌, map, length, get_or, Some, None, Ok, Option, sym, refl, ap, ◌∙◌, inl, inr, true≢false, arith, lit<, lit≤}
 use Rattle.std.proofs.lemmas.Bool.{cases_eq, eq-eqb, ne_eqb, cond-true, cond-false}
 use Rattle.structure.specs.Groups.{◌∈◌}
 use Rattle.structure.specs.Meanings.{Meaning}
@@ -25,8 +25,8 @@ use Rattle.threshold.specs.declared.thresholds.Threshold.{Threshold}
 use Rattle.depot.specs.Plans.{fitting}
 use Rattle.depot.specs.declared.books.PlanBook.{PlanBook}
 use Rattle.depot.specs.declared.values.Plan.{Plan}
-use Rattle.agreement.specs.Histories.{Event, heard, History, accepted, row, closings}
-use Rattle.agreement.specs.Lives.{Run, rests, goes, Life, SpeaksAfter, HearTruly}
+use Rattle.agreement.specs.Histories.{heard, History, accepted, row}
+use Rattle.agreement.specs.Lives.{Run, rests, goes, Life, HearTruly}
 use Rattle.example.specs.Liar.{M, K, G, LiarYard}
 
 abbrev m : Meaning

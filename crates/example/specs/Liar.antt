@@ -1,33 +1,30 @@
 -- Actual controllers that meet the premises of the agreement: a yard of four in which controller 3 tells each of the others something else.
-use Rattle.std.specs.Prelude.{◌≡◌, ℕ, ◌<◌, List, [], ◌∷◌, ◌≢◌}
-use Rattle.structure.specs.Groups.{◌∈◌}
+use Rattle.std.specs.Prelude.{◌≡◌, ℕ, ◌<◌, [], ◌∷◌, ◌≢◌}
 use Rattle.structure.specs.declared.Structure.{Ghosts as Structure}
-use Rattle.duty.specs.Codes.{Code}
 use Rattle.duty.specs.declared.duties.Duty.{Ghosts as Duty}
 use Rattle.duty.specs.declared.values.Same.{Ghosts as Same}
-use Rattle.duty.specs.declared.outcomes.Outcome.{Outcome}
 use Rattle.duty.specs.declared.outcomes.Outcome.TheVariants.{Taken}
 use Rattle.rounds.specs.Rows.{word_at}
 use Rattle.engine.specs.Words.{codes}
 use Rattle.engine.specs.declared.controllers.Controller.{Controller}
 use Rattle.threshold.specs.Thresholds.{threshold}
 use Rattle.threshold.specs.declared.thresholds.Threshold.{Threshold}
-use Rattle.threshold.specs.contracts.methods.ThresholdStructure.TheImpl as threshold-impl
+use Rattle.threshold.specs.contracts.methods.ThresholdStructure.TheImpl as ThresholdImpl
 use Rattle.depot.specs.declared.books.PlanBook.{PlanBook}
 use Rattle.depot.specs.declared.values.Plan.{Plan}
-use Rattle.depot.specs.contracts.plan_duty.PlanBookDuty.TheImpl as book-impl
-use Rattle.depot.specs.contracts.values.PlanSame.TheImpl as plan-impl
+use Rattle.depot.specs.contracts.plan_duty.PlanBookDuty.TheImpl as BookImpl
+use Rattle.depot.specs.contracts.values.PlanSame.TheImpl as PlanImpl
 use Rattle.agreement.specs.Histories.{History, accepted, row, closings}
 use Rattle.agreement.specs.Lives.{HearTruly}
 
 abbrev pub M : Structure Threshold
-M = threshold-impl.ghosts
+M = ThresholdImpl.ghosts
 
 abbrev pub K : Same Plan
-K = plan-impl.ghosts
+K = PlanImpl.ghosts
 
 abbrev pub G : Duty PlanBook Plan
-G = book-impl.ghosts
+G = BookImpl.ghosts
 
 -- the three members of a yard of four, of which one may be faulty: 0, 1 and 2, on plan books with plans to 9
 pub record LiarYard : Type 0 where

@@ -1,6 +1,6 @@
 -- No rule serves sets of which three share no controller.
 -- Each controller is run twice. Between a controller outside A and one in both A and B the two copies are crossed.
-use Rattle.std.proofs.Common.{◌≡◌, ℕ, zero, suc, ◌+◌, ◌<◌, Bool, true, false, not, ◌⊎◌, List, [], ◌∷◌, length, get_or, Some, sym, refl, ap, ◌∙◌, inl, inr, true≢false, add-one, arith}
+use Rattle.std.proofs.Common.{◌≡◌, ℕ, zero, suc, ◌<◌, Bool, true, false, not, ◌⊎◌, List, [], ◌∷◌, length, get_or, Some, sym, refl, ap, ◌∙◌, inl, inr, true≢false, add-one, arith}
 use mathlib.Core.Logic.Dec
 use Rattle.std.specs.List.{slice_get}
 use Rattle.structure.specs.Groups.{◌∈◌}

@@ -1,18 +1,18 @@
 -- Our own rounds serve every wiring whose sets share controllers by threes.
-use Rattle.std.proofs.Common.{◌≡◌, ℕ, zero, suc, ◌+◌, ◌<◌, ◌≤◌, Bool, true, List, [], ◌∷◌, length, get_or, Some, None, Option, sym, refl, ap, ◌∙◌, subst, add-one, arith}
+use Rattle.std.proofs.Common.{◌≡◌, ℕ, zero, suc, ◌<◌, ◌≤◌, Bool, true, [], ◌∷◌, Some, None, sym, refl, ap, ◌∙◌, add-one, arith}
 use Rattle.std.specs.List.{slice_get}
-use Rattle.structure.specs.Groups.{◌∈◌, within}
+use Rattle.structure.specs.Groups.{◌∈◌}
 use Rattle.structure.specs.Meanings.{Meaning, Laws}
 use Rattle.duty.specs.Codes.{Code}
-use Rattle.rounds.specs.Rows.{Word, Row, word_at, heard_word, heard}
+use Rattle.rounds.specs.Rows.{Word, Row, word_at, heard}
 use Rattle.rounds.specs.Slots.{Stage, speaks, rounds, next, after}
-use Rattle.rounds.specs.Slots.Stage.{poll, confirm, lead, closed}
+use Rattle.rounds.specs.Slots.Stage.{closed}
 use Rattle.rounds.specs.Agreement.{HeardTruly, Agree}
 use Rattle.rounds.proofs.Slots.{slot_agrees}
-use Rattle.cores.specs.Leads.{table, Wiring}
+use Rattle.cores.specs.Leads.{table}
 use Rattle.cores.proofs.Tests.{contains_decides}
 use Rattle.cores.proofs.Tables.{table_lawful}
-use Rattle.rules.specs.Rules.{Rule, Follows, Decides, Serves}
+use Rattle.rules.specs.Rules.{Follows, Decides}
 use Rattle.rules.specs.Own.{held, own_rule, OwnServes}
 
 -- where every value fits, a row is heard as it is

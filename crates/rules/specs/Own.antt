@@ -3,7 +3,7 @@ use Rattle.std.specs.Prelude.{◌≡◌, ℕ, List, [], ◌∷◌}
 use Rattle.std.proofs.Common.{arith}
 use Rattle.structure.specs.Meanings.{Meaning}
 use Rattle.duty.specs.Codes.{Code}
-use Rattle.rounds.specs.Rows.{Word, Row}
+use Rattle.rounds.specs.Rows.{Word}
 use Rattle.rounds.specs.Slots.{Stage, speaks, rounds, next}
 use Rattle.rounds.specs.Slots.Stage.{poll, confirm, lead, closed}
 use Rattle.cores.specs.Sharing.{ThreesShare}

@@ -9,7 +9,7 @@ pub returns : goal.returns
 returns g c =
     let M = g.S.Structure in
     let G = g.D.Duty in
-    let K = g.Value.Same in
+    let K = g.D.Value.Same in
     let d = c.args.draft.now in
     let r = c.seal.result in
     let lawful = g.met.S.Structure.lawful in

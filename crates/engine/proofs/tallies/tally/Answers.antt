@@ -8,12 +8,12 @@ use Rattle.engine.proofs.tallies.tally.Goals as goal
 use Rattle.engine.proofs.tallies.tally.Goals.{then-says, else-says}
 
 pub alone-group-requires : goal.alone-group-requires
-alone-group-requires g c = omega (arith, ap length c.first-sixteen-counted.ensures, length-take 16 c.args.words.now)
+alone-group-requires g c = omega (arith, ap length c.first_sixteen-counted.ensures, length-take 16 c.args.words.now)
 
 pub loop-i-preserved : goal.loop-i-preserved
 loop-i-preserved g c =
     let K = g.V.Same in
-    let words = c.first-sixteen-counted.result.now in
+    let words = c.first_sixteen-counted.result.now in
     let i = c.loop-i.i in
     let word = c.index-counted-i.result in
     let turn = group_turn (K.code c.args.value.now) (codes K words) (codes K (drop i words)) (codes K (drop (i + 1) words)) (word_code K word) c.loop-i.group i in
@@ -31,7 +31,7 @@ pub returns : goal.returns
 returns g c =
     let K = g.V.Same in
     let v = K.code c.args.value.now in
-    let words = c.first-sixteen-counted.result.now in
+    let words = c.first_sixteen-counted.result.now in
     let past : group v (codes K (drop c.loop-i.i words)) ≡ 0 = ap (λ ws. group v (codes K ws)) (drop_all c.loop-i.i words c.loop-i-test.false) in
     let all : c.loop-i.group ≡ group v (codes K words) = omega (arith, rw past at c.loop-i.invariant.2) in
-    all ∙ ap (λ ws. group v (codes K ws)) c.first-sixteen-counted.ensures
+    all ∙ ap (λ ws. group v (codes K ws)) c.first_sixteen-counted.ensures

@@ -1,6 +1,6 @@
 use Rattle.std.proofs.Common.{◌≡◌, refl, ap, subst}
-use Rattle.rounds.specs.Slots.{Stage, next}
-use Rattle.rounds.specs.Slots.Stage.{poll, confirm, lead, closed}
+use Rattle.rounds.specs.Slots.{next}
+use Rattle.rounds.specs.Slots.Stage.{poll, confirm, lead}
 use Rattle.engine.specs.declared.controllers.Heard.TheVariants.{Round, Closed}
 use Rattle.engine.specs.Controllers.{held_stage}
 use Rattle.engine.specs.Promises.{Settles}
@@ -14,11 +14,11 @@ returns-in-Poll g c =
     let K = g.D.Value.Same in
     let self = c.args.self.now in
     let k = self.phase.number in
-    let row = c.in-ok-row.row in
+    let row = c.in_ok-row.row in
     let e = c.hear-next.ensures.stage in
     let s : confirm k (K.code c.hear-next.result.x) (word_code K c.hear-next.result.y)
     ≡ next (meaning_of g.S.Structure row) (poll k (K.code c.in-Poll.x)) (heard_row g.D.Duty K row) = cc in
-    hears_moved g.S.Structure g.D.Duty K self _ c.args.words.now row c.in-ok-row.ensures refl refl
+    hears_moved g.S.Structure g.D.Duty K self _ c.args.words.now row c.in_ok-row.ensures refl refl
     (poll k (K.code c.in-Poll.x)) _ (Round _) (ap (held_stage K k) c.in-Poll.is) s (record { answer = refl; stage = refl; duty = refl })
 
 pub returns-in-Closed : goal.returns-in-Closed
@@ -26,7 +26,7 @@ returns-in-Closed g c =
     let K = g.D.Value.Same in
     let self = c.args.self.now in
     let k = self.phase.number in
-    hears_moved g.S.Structure g.D.Duty K self _ c.args.words.now c.in-ok-row.row c.in-ok-row.ensures refl refl
+    hears_moved g.S.Structure g.D.Duty K self _ c.args.words.now c.in_ok-row.row c.in_ok-row.ensures refl refl
     (lead k (K.code c.in-Lead.z) c.in-Lead.sure) _ (Closed _ _) (ap (held_stage K k) c.in-Lead.is) c.in-Closed.ensures.stage
     (record {
       value = c.value-value.result;

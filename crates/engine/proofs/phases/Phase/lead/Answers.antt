@@ -4,5 +4,5 @@ use Rattle.engine.proofs.phases.Phase.lead.Goals as goal
 
 pub returns : goal.returns
 returns g c =
-    c.unwrap-or.ensures ∙ ap (λ o. unwrap_or o 0) c.lead.ensures
+    c.unwrap_or.ensures ∙ ap (λ o. unwrap_or o 0) c.lead.ensures
     ∙ nth_or (g.S.Structure.meaning c.args.structure.now).leads c.args.self.number 0

@@ -3,11 +3,11 @@ use Rattle.std.proofs.lemmas.Bool.{cond_below, cond_above}
 use Rattle.engine.proofs.Leads.{nth_within, nth_beyond}
 use Rattle.engine.proofs.phases.Phase.next.Goals as goal
 
-pub invariant-of-result : goal.invariant-of-result
-invariant-of-result g c =
+pub invariant_of-result : goal.invariant_of-result
+invariant_of-result g c =
     let m = g.S.Structure.meaning c.args.structure.now in
     let laws = g.met.S.Structure.lawful c.args.structure.now in
-    (omega (arith, nth_within m.leads (c.args.self.number + 1) (ap is_some (sym c.in-Some.ensures)), laws.leads_few, laws.size_high), tt)
+    record { few = omega (arith, nth_within m.leads (c.args.self.number + 1) (ap is_some (sym c.in-Some.ensures)), laws.leads_few, laws.size_high) }
 
 pub returns-in-Some : goal.returns-in-Some
 returns-in-Some g c =

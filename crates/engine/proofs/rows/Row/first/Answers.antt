@@ -8,7 +8,7 @@ use Rattle.engine.specs.Tests.{passes}
 use Rattle.engine.proofs.Words.{codes_from}
 use Rattle.engine.proofs.Firsts.{first_passing, first_nothing, first_fails, first_finds}
 use Rattle.engine.proofs.rows.Row.first.Goals as goal
-use Rattle.engine.proofs.rows.Row.first.Goals.{in-Some+else-passes, in-default}
+use Rattle.engine.proofs.rows.Row.first.Goals.{in-Some+else-passes, in_default}
 
 pub loop-word-preserved : goal.loop-word-preserved
 loop-word-preserved g c =
@@ -24,7 +24,7 @@ loop-word-preserved g c =
         | in-Some+else-passes w ↦
             sym (first_fails test (codes K (drop i words)) rest (K.code w.in-Some.value) (begins ∙ ap (λ word. word_code K word ∷ rest) w.in-Some.is) (sym w.passes.ensures ∙ w.if-passes.false))
             ∙ c.loop-word.invariant.1
-        | in-default w ↦ sym (first_nothing test (codes K (drop i words)) rest (begins ∙ ap (λ word. word_code K word ∷ rest) w.in-default.is)) ∙ c.loop-word.invariant.1
+        | in_default w ↦ sym (first_nothing test (codes K (drop i words)) rest (begins ∙ ap (λ word. word_code K word ∷ rest) w.in_default.is)) ∙ c.loop-word.invariant.1
       ],
     )
 

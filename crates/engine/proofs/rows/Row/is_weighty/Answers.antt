@@ -22,5 +22,5 @@ returns g c =
     let high = (g.met.S.Structure.lawful row.structure.now).size_high in
     let few : c.size.result ≤ 16 = omega (arith, c.size.ensures) in
     let all : c.everyone.result ≡ everyone m.size = c.everyone.ensures.yard few ∙ ap everyone c.size.ensures in
-    let outside = c.saturating-sub-outside.ensures ∙ ap (λ a. a - c.tally.result) all ∙ ap (λ s. everyone m.size - s) said in
+    let outside = c.saturating_sub-outside.ensures ∙ ap (λ a. a - c.tally.result) all ∙ ap (λ s. everyone m.size - s) said in
     ap not (c.enough.ensures ∙ ap m.enough outside)
