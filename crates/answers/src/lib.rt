@@ -1,4 +1,7 @@
 //! Answers: what came of a line of the yard text, and the line that tells it.
+
+#![tactic(auto)]
+
 mod answers;
 mod faults;
 mod replies;

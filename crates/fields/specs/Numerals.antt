@@ -7,11 +7,11 @@ use Rattle.std.specs.Int.{IsInRange}
 use Rattle.std.specs.List.{between}
 use Rattle.std.proofs.lemmas.Fmt.{decimal_digit, decimal_is_IsNumeral, decimal-digits_value, first_decimal, decimal_injective}
 use Rattle.std.proofs.lemmas.List.{nil_from_length}
-use Rattle.std.proofs.lemmas.Str.Parse.{digit_at, digit_from_value, numerals_by_value, tells_digits, IsNumeralModel}
+use Rattle.std.proofs.lemmas.Str.Parse.{digit_at, digit_from_value, numerals_by_value, tells_digits}
 use Rattle.std.proofs.lemmas.Slice.{first_rest}
 use Rattle.std.proofs.lemmas.Bool.{cases_lt, eqb-false}
 use Rattle.std.proofs.lemmas.Bool.Decides.{nat_tests}
-use Rattle.fields.specs.Numbers.{numeral, Number, Continues}
+use Rattle.fields.specs.Numbers.{Number, Continues}
 use Rattle.fields.specs.Reading.{Reads, SaysOne}
 
 -- what a test of the code tells, for omega

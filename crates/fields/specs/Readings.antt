@@ -1,6 +1,6 @@
 -- What a field can be read as.
-use Rattle.std.specs.Prelude.{◌≡◌, ℕ, ◌^◌, ◌<◌, ◌≤◌, List, [], ◌∷◌, ◌++◌, length, get_or, codes, refl}
-use Rattle.std.proofs.Common.{sym, ap, subst, ◌∙◌, arith, length-append}
+use Rattle.std.specs.Prelude.{◌≡◌, ℕ, ◌<◌, List, ◌∷◌, ◌++◌, length, codes, refl}
+use Rattle.std.proofs.Common.{sym, ap, ◌∙◌, arith, length-append}
 use Rattle.std.specs.Str.Parse.{AllDigits}
 use Rattle.std.proofs.lemmas.Fmt.{decimal_is_IsNumeral}
 use Rattle.std.proofs.lemmas.Str.Parse.{not_in_digits, numerals_by_value, tells_digits}
@@ -8,7 +8,6 @@ use Rattle.fields.specs.Fields.{Lacks}
 use Rattle.fields.specs.Numbers.{numeral, Number}
 use Rattle.fields.specs.Reading.{SaysOne}
 use Rattle.fields.specs.Values.{PlanText, GrantText}
-use Rattle.depot.specs.declared.values.Plan.{Plan}
 use Rattle.depot.specs.declared.values.Grant.{Grant}
 use Rattle.fields.specs.Parting.{same_cut, not_lacks}
 use Rattle.fields.specs.Numerals.{one_number, first}

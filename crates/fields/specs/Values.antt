@@ -2,7 +2,7 @@
 use Rattle.std.specs.Prelude.{◌≡◌, ℕ, ◌<◌, List, ◌∷◌, ◌++◌}
 use Rattle.depot.specs.declared.values.Grant.{Grant}
 use Rattle.depot.specs.declared.values.Plan.{Plan}
-use Rattle.fields.specs.Numbers.{numeral, Number}
+use Rattle.fields.specs.Numbers.{numeral}
 
 -- a plan's numeral
 abbrev pub plan_text : Plan → List ℕ

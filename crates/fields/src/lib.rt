@@ -1,4 +1,7 @@
 //! The fields of a line: how tabs part it, and the numbers, plans and grants that a field says.
+
+#![tactic(auto)]
+
 mod cuts;
 mod faults;
 mod numbers;

@@ -1,5 +1,5 @@
 -- Rising numbers, one after another, and the group of the controllers that they name.
-use Rattle.std.proofs.Common.{◌≡◌, ℕ, zero, suc, ◌+◌, ◌/◌, ◌^◌, ◌<◌, ◌≤◌, Bool, true, false, cond, ltb, ◌⊎◌, ◌↔◌, List, [], ◌∷◌, ◌++◌, length, Some, None, Option, sym, refl, ap, ◌∙◌, subst, inl, inr, ⊎_elim, append_assoc, append-nil, pow-suc, add-one, arith, length-append, pow_mono, Bor, ltb-false, ltb-true}
+use Rattle.std.proofs.Common.{◌≡◌, ℕ, zero, suc, ◌+◌, ◌/◌, ◌^◌, ◌<◌, ◌≤◌, Bool, true, false, cond, ltb, ◌⊎◌, List, [], ◌∷◌, ◌++◌, length, Some, None, Option, sym, refl, ap, ◌∙◌, subst, inl, inr, ⊎_elim, append_assoc, append-nil, pow-suc, add-one, arith, length-append, pow_mono, Bor, ltb-false, ltb-true}
 use lib.Bits.{bit_or, or_shifted_r}
 use Rattle.structure.specs.Groups.{◌∈◌}
 use Rattle.structure.proofs.Bits.{none_in, in_half, half_in, in_odd, odd_in}

@@ -1,5 +1,5 @@
 -- Where fields depart from a form.
-use Rattle.std.proofs.Common.{◌≡◌, ℕ, suc, ◌<◌, ◌≤◌, List, [], ◌∷◌, ◌++◌, length, sym, refl, subst, arith}
+use Rattle.std.proofs.Common.{◌≡◌, ℕ, suc, List, [], ◌∷◌, ◌++◌, length, sym, refl, subst, arith}
 use Rattle.lines.specs.Forms.{Departs}
 
 -- at the first field

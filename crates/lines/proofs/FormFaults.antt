@@ -1,5 +1,5 @@
 -- The first fault of lines with a fixed number of fields.
-use Rattle.std.proofs.Common.{◌≡◌, ℕ, ◌<◌, List, [], ◌∷◌, Ok, Err, Result, refl, ap, arith}
+use Rattle.std.proofs.Common.{◌≡◌, ℕ, List, [], ◌∷◌, Ok, Err, Result, refl, arith}
 use Rattle.fields.specs.declared.faults.FieldFault.{FieldFault}
 use Rattle.depot.specs.declared.values.Grant.{Grant}
 use Rattle.depot.specs.declared.values.Plan.{Plan}

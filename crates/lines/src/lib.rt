@@ -1,6 +1,9 @@
 //! The lines of the yard text: what the first field names, and what the fields after it say.
 //!
 //! A reader takes the fields that are left of a line and gives what they say, or the first field that is faulty, missing or surplus.
+
+#![tactic(auto)]
+
 mod readers;
 mod sets;
 mod verbs;

@@ -11,7 +11,7 @@ fn next_value<'a, V: Value>(
     rest: Option<&'a [u8]>,
     at: u32,
 ) -> Result<(V, Option<&'a [u8]>), FieldFault>
-    ensures { NextSays says (left rest.entry) at result }
+    ensures { NextSays V.says (left rest.entry) at result }
 {
     let fault = FieldFault { field: at };
     let (field, rest) = next_field(rest.ok_or(fault)?);
@@ -68,7 +68,7 @@ pub fn read_board(rest: Option<&[u8]>) -> Result<(u32, u32, Grant), FieldFault>
 
 /// After `offer`: a value.
 pub fn read_offer<V: Value>(rest: Option<&[u8]>) -> Result<V, FieldFault>
-    ensures { Read (OfferForm says) (left rest.entry) result }
+    ensures { Read (OfferForm V.says) (left rest.entry) result }
 {
     let (value, rest) = next_value::<V>(rest, 2)?;
     end(rest, 3)?;

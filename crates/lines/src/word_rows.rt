@@ -43,7 +43,7 @@ impl<V: Copy> Words<V> {
 
 /// What a field says as a word: a value, or nothing where it is `-`.
 fn word<V: Value>(field: &[u8]) -> Option<Option<V>>
-    ensures { Reads (SaysWord says) field.now result }
+    ensures { Reads (SaysWord V.says) field.now result }
 {
     match field {
         [b'-'] => Some(None),
@@ -53,7 +53,7 @@ fn word<V: Value>(field: &[u8]) -> Option<Option<V>>
 
 /// After `hear`: words, any number of them.
 pub fn read_words<V: Value>(rest: Option<&[u8]>) -> Result<Words<V>, FieldFault>
-    ensures { Read (HearForm says) (left rest.entry) result }
+    ensures { Read (HearForm V.says) (left rest.entry) result }
 {
     let mut words = Words::none();
     let mut left = rest;

@@ -1,5 +1,5 @@
 -- What any line comes to.
-use Rattle.std.proofs.Common.{◌≡◌, ℕ, ◌<◌, ◌≤◌, cond, eqb, List, ◌∷◌, length, get_or, Err, Result, sym, refl, ap, ◌∙◌, subst, arith}
+use Rattle.std.proofs.Common.{◌≡◌, ℕ, ◌≤◌, cond, eqb, List, ◌∷◌, length, get_or, Err, Result, sym, refl, ap, ◌∙◌, subst, arith}
 use Rattle.fields.specs.Fields.{fields}
 use Rattle.fields.specs.declared.faults.FieldFault.{FieldFault}
 use Rattle.lines.specs.Verbs.{verb_text}

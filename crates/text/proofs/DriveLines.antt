@@ -1,5 +1,5 @@
 -- What the lines that open and drive a controller come to, put together from what their steps gave.
-use Rattle.std.proofs.Common.{◌≡◌, ℕ, List, Some, Ok, Err, Option, Result, sym, refl, ap, ◌∙◌, subst}
+use Rattle.std.proofs.Common.{◌≡◌, ℕ, List, Some, Ok, Err, Result, sym, refl, ap, ◌∙◌, subst}
 use Rattle.duty.specs.declared.duties.Duty.{Ghosts as Duty}
 use Rattle.duty.specs.declared.values.Same.{Ghosts as Same}
 use Rattle.depot.specs.declared.boards.Board.{Board}
@@ -12,7 +12,6 @@ use Rattle.depot.specs.PlanCalls as books
 use Rattle.survivor.specs.declared.tables.Table.{Table}
 use Rattle.engine.specs.Promises.{Opens}
 use Rattle.engine.specs.declared.controllers.Controller.{Controller}
-use Rattle.engine.specs.declared.controllers.Heard.{Heard}
 use Rattle.engine.specs.declared.controllers.Unopened.{Unopened}
 use Rattle.fields.specs.Values.{PlanText, GrantText}
 use Rattle.lines.specs.Lines.{PlansForm, BoardForm}
@@ -20,12 +19,11 @@ use Rattle.answers.specs.declared.faults.Fault.{Fault}
 use Rattle.answers.specs.declared.replies.Agreed.{Agreed}
 use Rattle.answers.specs.declared.replies.Agreed.TheVariants as Agreeds
 use Rattle.answers.specs.declared.replies.Reply.{Reply}
-use Rattle.answers.specs.declared.replies.Reply.TheVariants.{Done}
 use Rattle.text.specs.declared.yards.Running.{Running}
 use Rattle.text.specs.declared.yards.Running.TheVariants as Runnings
 use Rattle.text.specs.declared.yards.Yard.{Yard}
-use Rattle.text.specs.Yards.{Needs, ReadsThen, with_running}
-use Rattle.text.specs.Driving.{table_structure, book_duty, plan_kind, board_duty, grant_kind, OpensOn, OpeningTold, OpensPlans, OpensBoard, Offered, OffersTo, OffersWith, OffersLine, RowHeard, Driven, HearsBy, HearsWith, HearsLine}
+use Rattle.text.specs.Yards.{ReadsThen, with_running}
+use Rattle.text.specs.Driving.{table_structure, book_duty, plan_kind, board_duty, grant_kind, OpensOn, OpeningTold, OpensPlans, OpensBoard, Offered, OffersTo, RowHeard, Driven, HearsBy}
 use Rattle.text.proofs.DraftLines.{there}
 use Rattle.text.proofs.Stays.{row_refused, offer_refused}
 

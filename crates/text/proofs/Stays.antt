@@ -1,5 +1,5 @@
 -- A controller that refuses stays as it was.
-use Rattle.std.proofs.Common.{◌≡◌, ℕ, Bool, true, false, List, length, Ok, Err, Option, Result, sym, refl, subst, ⊎_elim, arith}
+use Rattle.std.proofs.Common.{◌≡◌, ℕ, Bool, true, false, List, length, Ok, Err, Option, Result, refl, ⊎_elim, arith}
 use Rattle.std.proofs.lemmas.Bool.{cases_eq}
 use Rattle.duty.specs.declared.duties.Duty.{Ghosts as Duty}
 use Rattle.duty.specs.declared.values.Same.{Ghosts as Same}

@@ -2,8 +2,6 @@
 use Rattle.std.proofs.Common.{◌≡◌, ℕ, List, Some, None, Ok, Err, Option, Result, sym, ◌∙◌, subst, arith}
 use Rattle.duty.specs.declared.duties.Duty.{Ghosts as Duty}
 use Rattle.duty.specs.declared.values.Same.{Ghosts as Same}
-use Rattle.depot.specs.declared.boards.Board.{Board}
-use Rattle.depot.specs.declared.books.PlanBook.{PlanBook}
 use Rattle.depot.specs.declared.refusals.SettingsRefusal.{SettingsRefusal}
 use Rattle.survivor.specs.declared.refusals.DraftRefusal.{DraftRefusal}
 use Rattle.survivor.specs.declared.tables.Draft.{Draft}
@@ -21,7 +19,7 @@ use Rattle.answers.specs.declared.replies.Reply.{Reply}
 use Rattle.text.specs.declared.yards.Running.{Running}
 use Rattle.text.specs.declared.yards.Running.TheVariants as Runnings
 use Rattle.text.specs.declared.yards.Yard.{Yard}
-use Rattle.text.specs.Yards.{DoneWith, Needs, AfterReading, ReadsThen}
+use Rattle.text.specs.Yards.{DoneWith, Needs, AfterReading}
 use Rattle.text.specs.Drafting.{MakingTold, AddingTold, TakesSet, SealingTold}
 use Rattle.text.specs.Driving.{book_duty, plan_kind, board_duty, grant_kind, OpeningTold, OpensOn, Driven, OffersWith, HearsWith}
 use Rattle.text.specs.Answering.{Obeys}

@@ -1,5 +1,5 @@
 -- What the lines `plans`, `board`, `offer` and `hear` do. A controller does exactly what its calls promise: see the crate of controllers.
-use Rattle.std.specs.Prelude.{◌≡◌, ℕ, List, Some, None, Ok, Err, Option, Result}
+use Rattle.std.specs.Prelude.{◌≡◌, ℕ, List, Ok, Err, Option, Result}
 use Rattle.structure.specs.declared.Structure.{Ghosts as Structure}
 use Rattle.duty.specs.declared.duties.Duty.{Ghosts as Duty}
 use Rattle.duty.specs.declared.values.Same.{Ghosts as Same}
@@ -11,12 +11,12 @@ use Rattle.depot.specs.declared.values.Grant.{Grant}
 use Rattle.depot.specs.declared.values.Plan.{Plan}
 use Rattle.depot.specs.BoardCalls as boards
 use Rattle.depot.specs.PlanCalls as books
-use Rattle.depot.specs.contracts.board_duty.BoardDuty.TheImpl as board-impl
-use Rattle.depot.specs.contracts.plan_duty.PlanBookDuty.TheImpl as book-impl
-use Rattle.depot.specs.contracts.values.GrantSame.TheImpl as grant-impl
-use Rattle.depot.specs.contracts.values.PlanSame.TheImpl as plan-impl
+use Rattle.depot.specs.contracts.board_duty.BoardDuty.TheImpl as BoardImpl
+use Rattle.depot.specs.contracts.plan_duty.PlanBookDuty.TheImpl as BookImpl
+use Rattle.depot.specs.contracts.values.GrantSame.TheImpl as GrantImpl
+use Rattle.depot.specs.contracts.values.PlanSame.TheImpl as PlanImpl
 use Rattle.survivor.specs.declared.tables.Table.{Table}
-use Rattle.survivor.specs.contracts.seals.TableStructure.TheImpl as table-impl
+use Rattle.survivor.specs.contracts.seals.TableStructure.TheImpl as TableImpl
 use Rattle.engine.specs.declared.controllers.Controller.{Controller}
 use Rattle.engine.specs.declared.controllers.Heard.{Heard}
 use Rattle.engine.specs.declared.controllers.Heard.TheVariants as Heards
@@ -40,19 +40,19 @@ use Rattle.text.specs.Yards.{with_running, Refused, DoneWith, Needs, ReadsThen}
 
 -- ---- what a sealed table, a plan book and a board mean as structure and duties
 abbrev pub table_structure : Structure Table
-table_structure = table-impl.ghosts
+table_structure = TableImpl.ghosts
 
 abbrev pub book_duty : Duty PlanBook Plan
-book_duty = book-impl.ghosts
+book_duty = BookImpl.ghosts
 
 abbrev pub plan_kind : Same Plan
-plan_kind = plan-impl.ghosts
+plan_kind = PlanImpl.ghosts
 
 abbrev pub board_duty : Duty Board Grant
-board_duty = board-impl.ghosts
+board_duty = BoardImpl.ghosts
 
 abbrev pub grant_kind : Same Grant
-grant_kind = grant-impl.ghosts
+grant_kind = GrantImpl.ghosts
 
 -- ---- for either duty: `Says` is the text of its values, and `agreed` and `running` name its values and its controllers among those of both
 module _ {D V : Type 0} (G : Duty D V) (K : Same V) (Says : List ℕ → V → Type 0) (agreed : V → Agreed) (running : Controller Table D V → Running) where

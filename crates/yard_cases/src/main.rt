@@ -2,6 +2,8 @@
 //! answer that is expected to each. Each case is run, and a line of the output tells whether it was answered as expected. Then a
 //! yard is run past the last line that a text may have.
 
+#![tactic(auto)]
+
 mod cases;
 mod escapes;
 mod past_the_end;

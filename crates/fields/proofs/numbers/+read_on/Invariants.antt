@@ -1,5 +1,5 @@
 use Rattle.std.proofs.Common.{length}
 use Rattle.fields.proofs.numbers.+read_on.Given as goal
 
-abbrev pub decreases-read-on : goal.decreases-read-on
-decreases-read-on l = length l.bytes.now
+abbrev pub decreases-read_on : goal.decreases-read_on
+decreases-read_on l = length l.bytes.now

@@ -2,14 +2,14 @@ use Rattle.std.proofs.lemmas.Result.{err_from_is_err_and}
 use Rattle.lines.proofs.FormFaults.{one_2, one_3}
 use Rattle.lines.proofs.readers.read_offer.Goals as goal
 
-pub returns-in-err-value : goal.returns-in-err-value
-returns-in-err-value g c =
-    let p = err_from_is_err_and c.from-residual.result c.from-residual.ensures.1 in
+pub returns-in_err-value : goal.returns-in_err-value
+returns-in_err-value g c =
+    let p = err_from_is_err_and c.from_residual.result c.from_residual.ensures.1 in
     let any = g.met.V.Value.any in
-    rw (p.1, p.2) (one_2 g.row.V-Value.says any.0 any.1 any.2 _ _ c.in-err-value.ensures)
+    rw (p.1, p.2) (one_2 g.V.Value.says any.0 any.1 any.2 _ _ c.in_err-value.ensures)
 
-pub returns-in-err-end : goal.returns-in-err-end
-returns-in-err-end g c =
-    let p = err_from_is_err_and c.from-residual-in-err-end.result c.from-residual-in-err-end.ensures.1 in
-    let one = c.in-ok-value.ensures in
-    rw (p.1, p.2) (one_3 g.row.V-Value.says _ _ one.0 _ _ one.1 one.2 c.in-err-end.ensures)
+pub returns-in_err-end : goal.returns-in_err-end
+returns-in_err-end g c =
+    let p = err_from_is_err_and c.from_residual-in_err-end.result c.from_residual-in_err-end.ensures.1 in
+    let one = c.in_ok-value.ensures in
+    rw (p.1, p.2) (one_3 g.V.Value.says _ _ one.0 _ _ one.1 one.2 c.in_err-end.ensures)

@@ -7,7 +7,7 @@ pub loop-lead-init : goal.loop-lead-init
 loop-lead-init c = none_more c.args.self.now.bytes c.args.self.now.len (omega arith)
 
 pub loop-lead-preserved : goal.loop-lead-preserved
-loop-lead-preserved c = lead_more _ _ _ _ c.loop-lead.lead-index _ (omega arith) c.from.ensures c.loop-lead.invariant c.push-after-tab.ensures
+loop-lead-preserved c = lead_more _ _ _ _ c.loop-lead.lead-index _ (omega arith) c.from.ensures c.loop-lead.invariant c.push_after_tab.ensures
 
 pub returns : goal.returns
 returns c = leads_all _ _ _ _ c.loop-lead.lead-index (omega arith) c.leads-lead-items.ensures.answer c.loop-lead.invariant

@@ -12,10 +12,10 @@ pub returns-in-Plans : goal.returns-in-Plans
 returns-in-Plans c =
     let is = sym c.take.ensures.value ∙ c.in-Some.is ∙ ap Some c.in-Plans.is in
     there (HearsWith (left c.args.rest)) _ (Runnings.Plans c.in-Plans.controller) _ _ _ is
-    (hears book_duty plan_kind PlanText Agreeds.Plan Runnings.Plans _ _ _ _ _ is c.hear-plans-came.ensures)
+    (hears book_duty plan_kind PlanText Agreeds.Plan Runnings.Plans _ _ _ _ _ is c.hear_plans-came.ensures)
 
 pub returns : goal.returns
 returns c =
     let is = sym c.take.ensures.value ∙ c.in-Some.is ∙ ap Some c.in-Board.is in
     there (HearsWith (left c.args.rest)) _ (Runnings.Board c.in-Board.controller) _ _ _ is
-    (hears board_duty grant_kind GrantText Agreeds.Grant Runnings.Board _ _ _ _ _ is c.hear-grants-came.ensures)
+    (hears board_duty grant_kind GrantText Agreeds.Grant Runnings.Board _ _ _ _ _ is c.hear_grants-came.ensures)

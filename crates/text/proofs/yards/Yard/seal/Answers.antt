@@ -4,5 +4,5 @@ use Rattle.text.proofs.yards.Yard.seal.Goals as goal
 
 pub returns : goal.returns
 returns c =
-    let e = c.in-ok-seal.ensures in
-    seals _ _ _ _ _ (Ok tt) _ c.in-Some.is c.in-ok-read-seal.ensures (record { answer = e.answer; reason = e.reason; written = λ _. e.after }) (refl, refl)
+    let e = c.in_ok-seal.ensures in
+    seals _ _ _ _ _ (Ok tt) _ c.in-Some.is c.in_ok-read_seal.ensures (record { answer = e.answer; reason = e.reason; written = λ _. e.after }) (refl, refl)

@@ -6,5 +6,5 @@ pub returns-then-n-at : goal.returns-then-n-at
 returns-then-n-at c =
     let at = c.args.self.now.len in
     let old = c.args.self.now.bytes in
-    let copied = c.copy-from-slice.ensures.after in
+    let copied = c.copy_from_slice.ensures.after in
     λ _. take-put_mid at _ old _ (at + length c.args.answer.now) (omega (arith, ap length copied)) (omega arith) ∙ ap (λ l. take at old ++ l) copied
