@@ -1,5 +1,7 @@
 //! The worked cases, run: each line has a case and what the code answered.
 
+#![tactic(auto)]
+
 mod drafts;
 mod rounds;
 mod thresholds;

@@ -1,5 +1,8 @@
 //! Random grants and plans, given to the board and the plan book and to a second, plain implementation of each. Prints how often
 //! the two differ.
+
+#![tactic(auto)]
+
 mod numbers;
 mod plain;
 

@@ -1,5 +1,7 @@
 //! A night at the depot, to look at: the installer's wiring, whole slots with liars, then the grants of a board.
 
+#![tactic(auto)]
+
 mod grants;
 mod slots;
 mod wiring;

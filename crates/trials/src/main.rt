@@ -1,6 +1,8 @@
 //! Random trials of the proved code against a second implementation that is as plain as can be.
 //! With the word `time` it measures both instead.
 
+#![tactic(auto)]
+
 mod dice;
 mod drafts;
 mod naive;
