@@ -2,7 +2,7 @@
 use Rattle.std.specs.Prelude.{◌≡◌, ℕ, ◌<◌, Bool, true, false, List, [], ◌∷◌, ◌++◌, length, Some, None, Option, ◌==◌, ◌≢◌, slice_index}
 use Rattle.std.specs.Borrow.{Bor}
 use Rattle.std.specs.Option as options
-use Rattle.std.specs.List.{AllByRecursion as All}
+use Rattle.std.specs.List.{AllByRecursion}
 
 -- ---- the fields, worked out
 -- a byte in front of a line: a tab begins a field, and any other byte is the first of the first field
@@ -36,7 +36,7 @@ pub record Parted (line : List ℕ) (fs : List (List ℕ)) : Type 0 where
   pub after : List (List ℕ)
   pub whole : fs ≡ first ∷ after
   pub joined : line ≡ line_of first after
-  pub bare : Lacks 9 first × All (Lacks 9) after
+  pub bare : Lacks 9 first × AllByRecursion (Lacks 9) after
 
 -- every line is parted into its fields, and in no other way
 abbrev pub FieldsPart : Type 0

@@ -2,7 +2,7 @@
 use Rattle.std.specs.Prelude.{◌≡◌, ℕ, ◌+◌, ◌-◌, ◌*◌, ◌^◌, ◌<◌, ◌≤◌, ◌⊎◌, List, [], ◌∷◌, length, Some, None, decimal, Option, slice_index, refl}
 use Rattle.std.proofs.Common.{sym, ap, subst, ◌∙◌, inl, inr, ⊎_elim, arith, ltb-true, ltb-false, leb-true, leb-false, eqb-true}
 use Rattle.std.specs.Str.Parse.{AllDigits, digits_value, digits_value_after}
-use Rattle.std.specs.Char.{digit_value as digitValue}
+use Rattle.std.specs.Char.{digit_value}
 use Rattle.std.specs.Int.{IsInRange}
 use Rattle.std.specs.List.{between}
 use Rattle.std.proofs.lemmas.Fmt.{decimal_digit, decimal_is_IsNumeral, decimal-digits_value, first_decimal, decimal_injective}
@@ -17,12 +17,12 @@ use Rattle.fields.specs.Reading.{Reads, SaysOne}
 -- what a test of the code tells, for omega
 pub ruleset facts = (arith, ltb-true, ltb-false, leb-true, leb-false, eqb-true, eqb-false)
 
-digit_value : (b : ℕ) → IsInRange 48 57 b → digitValue b ≡ b - 48
-digit_value b h = grind (arith, nat_tests)
+value_of_digit : (b : ℕ) → IsInRange 48 57 b → digit_value b ≡ b - 48
+value_of_digit b h = grind (arith, nat_tests)
 
 after_ge : (n : ℕ) (bs : List ℕ) → n ≤ digits_value_after 10 n bs
 after_ge n [] = omega arith
-after_ge n (b ∷ bs) = omega (arith, after_ge (n * 10 + digitValue b) bs)
+after_ge n (b ∷ bs) = omega (arith, after_ge (n * 10 + digit_value b) bs)
 
 -- the end of the digits
 pub at_end : (n : ℕ) (bs : List ℕ) → length bs ≡ 0 → n < 100000 → Continues n bs n
@@ -33,8 +33,8 @@ at_end n (b ∷ bs) e h = absurd (omega arith)
 pub one_more : (n d : ℕ) (bs : List ℕ) (r : Option ℕ) → 0 < length bs → IsInRange 48 57 (slice_index bs 0) → d ≡ slice_index bs 0 - 48 → Reads (Continues (n * 10 + d)) (between 1 (length bs) bs) r → Reads (Continues n) bs r
 one_more n d bs r some i is h = subst (λ l. Reads (Continues n) l r) (sym (first_rest bs 0 some)) (go r h)
   where
-    same : digitValue (slice_index bs 0) ≡ d
-    same = digit_value (slice_index bs 0) i ∙ sym is
+    same : digit_value (slice_index bs 0) ≡ d
+    same = value_of_digit (slice_index bs 0) i ∙ sym is
 
     go : (r : Option ℕ) → Reads (Continues (n * 10 + d)) (between 1 (length bs) bs) r → Reads (Continues n) (slice_index bs 0 ∷ between 1 (length bs) bs) r
     go None f = λ m k. f m (k.0.1, k.1 ∙ ap (λ e. digits_value_after 10 (n * 10 + e) (between 1 (length bs) bs)) same, k.2)
@@ -45,7 +45,7 @@ pub stops : (n : ℕ) (bs : List ℕ) → 0 < length bs → (IsInRange 48 57 (sl
 stops n [] some fails m k = omega arith
 stops n (b ∷ bs) some fails m k =
     let large : 10000 ≤ n = fails (digit_from_value b k.0.0) in
-    omega (arith, after_ge (n * 10 + digitValue b) bs, k.1, k.2)
+    omega (arith, after_ge (n * 10 + digit_value b) bs, k.1, k.2)
 
 -- a numeral's first byte, and its length
 pub first : (field : List ℕ) (n : ℕ) → Number field n → (0 < length field) × IsInRange 48 57 (slice_index field 0) × ((48 < slice_index field 0) ⊎ (length field ≡ 1))

@@ -3,7 +3,7 @@ use Rattle.std.specs.Prelude.{◌≡◌, ℕ, zero, suc, ◌-◌, ◌<◌, ◌�
 use Rattle.std.proofs.Common.{sym, ap, subst, ◌∙◌, add-zero, arith, length-drop, take-append-drop, length-append, get_or-take, get_or-drop, length-take-le, ne_eqb, eqb-true}
 use Rattle.std.specs.Borrow.{Bor}
 use Rattle.std.proofs.lemmas.Bool.{eqb-false}
-use Rattle.std.specs.List.{AllByRecursion as All, between}
+use Rattle.std.specs.List.{AllByRecursion, between}
 use Rattle.std.proofs.lemmas.List.{take_all, get_or_at}
 use Rattle.std.proofs.lemmas.Slice.{first_rest}
 use Rattle.fields.specs.Fields.{Lacks, Cut, in_front, fields, left, line_of, Parted, FieldsPart}
@@ -79,7 +79,7 @@ part_front b line fs true e p =
       after = fs;
       whole = refl;
       joined = ap (λ x. x ∷ line) (eqb-true b 9 e) ∙ ap (λ l. 9 ∷ l) p.joined ∙ ap (λ l. line_of [] l) (sym p.whole);
-      bare = (λ k h. absurd (omega arith), subst (All (Lacks 9)) (sym p.whole) p.bare);
+      bare = (λ k h. absurd (omega arith), subst (AllByRecursion (Lacks 9)) (sym p.whole) p.bare);
     }
 part_front b line fs false e p =
     subst (λ l. Parted (b ∷ line) (in_front false b l)) (sym p.whole)
@@ -104,7 +104,7 @@ unfolding fields
 parted [] = record { first = []; after = []; whole = refl; joined = refl; bare = (λ k h. absurd (omega arith), tt) }
 parted (b ∷ bs) = part_front b bs (fields bs) (b == 9) refl (parted bs)
 
-fields_line : (first : List ℕ) (after : List (List ℕ)) → Lacks 9 first → All (Lacks 9) after → fields (line_of first after) ≡ first ∷ after
+fields_line : (first : List ℕ) (after : List (List ℕ)) → Lacks 9 first → AllByRecursion (Lacks 9) after → fields (line_of first after) ≡ first ∷ after
 fields_line first [] l a = field_whole first l
 fields_line first (f ∷ fs) l a = field_front first (line_of f fs) l ∙ ap (λ gs. first ∷ gs) (fields_line f fs a.0 a.1)
 
