@@ -75,7 +75,7 @@ module _ {S D V : Type 0} (M : Structure S) (G : Duty D V) (K : Same V) where
 
   -- ---- hearing
   -- the slot goes on at stage s: the answer is the round now due, and the duty is not touched
-  pub record Goes_on (c : Controller S D V) (s : Stage) (a : Heard V) (c' : Controller S D V) : Type 0 where
+  pub record GoesOn (c : Controller S D V) (s : Stage) (a : Heard V) (c' : Controller S D V) : Type 0 where
     pub answer : a ≡ Round (due s)
     pub stage : stage_of K c' ≡ s
     pub duty : c'.duty ≡ c.duty
@@ -90,9 +90,9 @@ module _ {S D V : Type 0} (M : Structure S) (G : Duty D V) (K : Same V) where
     pub stage : stage_of K c' ≡ poll 0 (K.code c.pending)
 
   abbrev pub Moves : Controller S D V → Stage → Heard V → Controller S D V → Type 0
-  Moves c (poll k x) a c' = Goes_on c (poll k x) a c'
-  Moves c (confirm k x y) a c' = Goes_on c (confirm k x y) a c'
-  Moves c (lead k z sure) a c' = Goes_on c (lead k z sure) a c'
+  Moves c (poll k x) a c' = GoesOn c (poll k x) a c'
+  Moves c (confirm k x y) a c' = GoesOn c (confirm k x y) a c'
+  Moves c (lead k z sure) a c' = GoesOn c (lead k z sure) a c'
   Moves c (closed x) a c' = Closes c x a c'
 
   pub record Hears (c : Controller S D V) (words : List (Option V)) (r : Result (Heard V) RowRefusal) (c' : Controller S D V) : Type 0 where
