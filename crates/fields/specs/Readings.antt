@@ -7,8 +7,9 @@ use Rattle.std.proofs.lemmas.Str.Parse.{not_in_digits, numerals_by_value, tells_
 use Rattle.fields.specs.Fields.{Lacks}
 use Rattle.fields.specs.Numbers.{numeral, Number}
 use Rattle.fields.specs.Reading.{SaysOne}
-use Rattle.fields.specs.Values.{PlanText, GrantText}
+use Rattle.fields.specs.Values.{PlanText, GrantText, grant_text}
 use Rattle.depot.specs.declared.values.Grant.{Grant}
+use Rattle.depot.specs.declared.values.Plan.{Plan}
 use Rattle.fields.specs.Parting.{same_cut, not_lacks}
 use Rattle.fields.specs.Numerals.{one_number, first}
 
@@ -42,9 +43,26 @@ one_grant f g h a b =
 pub some_grant : (f : List ℕ) (g : Grant) → GrantText f g → 0 < length f
 some_grant f g h = omega (arith, ap length h.2, length-append (numeral g.bay) (47 ∷ numeral g.amps))
 
--- and not `-`: it has a numeral, a slash and a numeral
+-- a number's field and a plan's are not `-`: they begin with a digit
+pub no_dash_number : (n : ℕ) → Number (codes "-") n → ⊥
+no_dash_number n h = let f = first (codes "-") n h in omega (arith, f.1)
+
+pub no_dash_plan : (p : Plan) → PlanText (codes "-") p → ⊥
+no_dash_plan p h = no_dash_number p.0 h
+
+-- nor is a grant's: it has a numeral, a slash and a numeral
 pub no_dash_grant : (g : Grant) → GrantText (codes "-") g → ⊥
 no_dash_grant g h =
     let bay = (first (numeral g.bay) g.bay (h.0, refl)).0 in
     let amps = (first (numeral g.amps) g.amps (h.1, refl)).0 in
     omega (arith, bay, amps, ap length h.2, length-append (numeral g.bay) (47 ∷ numeral g.amps))
+
+-- some field says 0, plan 0, and a grant of 0 amps to bay 0
+pub zero_number : Number (numeral 0) 0
+zero_number = (omega arith, refl)
+
+pub zero_plan : PlanText (numeral 0) (record { 0 = 0 })
+zero_plan = zero_number
+
+pub zero_grant : GrantText (grant_text (record { bay = 0; amps = 0 })) (record { bay = 0; amps = 0 })
+zero_grant = (omega arith, omega arith, refl)

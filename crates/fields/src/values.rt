@@ -1,11 +1,10 @@
 //! Values, as a field says them.
-ghost use Rattle.std.specs.Prelude.{ℕ, ◌<◌, List, length, codes, refl};
+ghost use Rattle.std.specs.Prelude.{ℕ, ◌<◌, List, length, codes};
 ghost use Rattle.fields.specs.Numbers.{Number, numeral};
 ghost use Rattle.fields.specs.Reading.{Reads, SaysOne};
 ghost use Rattle.fields.specs.Values.{PlanText, GrantText, grant_text};
 ghost use Rattle.fields.specs.Numerals.{first, one_number};
-ghost use Rattle.std.proofs.Common.{arith};
-ghost use Rattle.fields.specs.Readings.{one_plan, some_grant, one_grant, no_dash_grant};
+ghost use Rattle.fields.specs.Readings.{one_plan, some_grant, one_grant, no_dash_number, no_dash_plan, no_dash_grant, zero_number, zero_plan, zero_grant};
 ghost use Rattle.depot.specs.declared.values.Grant.{Grant};
 
 use crate::cuts::cut;
@@ -37,9 +36,9 @@ impl Value for u32 {
 
     ghost one = { one_number };
 
-    ghost dash = { λ n h. let f = first _ n h in omega (arith, f.1) };
+    ghost dash = { no_dash_number };
 
-    ghost any = { (numeral 0, 0, (omega arith, refl)) };
+    ghost any = { (numeral 0, 0, zero_number) };
 
     fn read(field: &[u8]) -> Option<u32> {
         number(field)
@@ -53,9 +52,9 @@ impl Value for Plan {
 
     ghost one = { one_plan };
 
-    ghost dash = { λ p h. let f = first _ p.0 h in omega (arith, f.1) };
+    ghost dash = { no_dash_plan };
 
-    ghost any = { (numeral 0, record { 0 = 0 }, (omega arith, refl)) };
+    ghost any = { (numeral 0, record { 0 = 0 }, zero_plan) };
 
     fn read(field: &[u8]) -> Option<Plan> {
         Some(Plan(number(field)?))
@@ -69,9 +68,9 @@ impl Value for Grant {
 
     ghost one = { one_grant };
 
-    ghost dash = { λ g h. no_dash_grant g h };
+    ghost dash = { no_dash_grant };
 
-    ghost any = { let g : Grant = record { bay = 0; amps = 0 } in (grant_text g, g, (omega arith, omega arith, refl)) };
+    ghost any = { (grant_text (record { bay = 0; amps = 0 }), record { bay = 0; amps = 0 }, zero_grant) };
 
     fn read(field: &[u8]) -> Option<Grant> {
         match cut(field, b'/') {

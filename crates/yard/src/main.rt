@@ -1,9 +1,10 @@
+//! The program `yard`: reads the lines of a yard text from standard input, and writes an answer to each on standard output.
+//!
+//! It reads and writes in blocks. All answers to a block are written before the next block is read, so that a host that waits for
+//! an answer gets it.
+
 #![tactic(auto)]
 
-// The program `yard`: reads the lines of a yard text from standard input, and writes an answer to each on standard output.
-//
-// It reads and writes in blocks. All answers to a block are written before the next block is read, so that a host that waits for
-// an answer gets it.
 mod blocks;
 
 use blocks::{Answers, BLOCK, Line};
