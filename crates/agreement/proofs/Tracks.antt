@@ -361,13 +361,13 @@ module _ {S D V : Type 0} (M : Structure S) (G : Duty D V) (K : Same V) (m : Mea
     track_open : Track [] start
     track_open =
         let (ej, eu) = inside R R_some 0 0 R_some in
-        let zero-div : 0 / R ≡ 0 = ap (λ x. x / R) (omega arith) ∙ ej in
-        let zero-mod : 0 % R ≡ 0 = ap (λ x. x % R) (omega arith) ∙ eu in (
+        let zero_div : 0 / R ≡ 0 = ap (λ x. x / R) (omega arith) ∙ ej in
+        let zero_mod : 0 % R ≡ 0 = ap (λ x. x % R) (omega arith) ∙ eu in (
           record {
             at_fits = λ t. first_fits;
             whole = λ t l. absurd (omega arith);
             stepped = tt;
-            values = ap (values_of (value (row []) (pending_at v []))) (sym zero-div);
+            values = ap (values_of (value (row []) (pending_at v []))) (sym zero_div);
             closes = λ i l. absurd (omega (arith, R_some));
             goes_on = λ t l. absurd (omega arith);
           },
@@ -376,7 +376,7 @@ module _ {S D V : Type 0} (M : Structure S) (G : Duty D V) (K : Same V) (m : Mea
             settings = ap G.settings opened.duty ∙ settings;
             pends = opened.pending;
             pends_fits = first_fits;
-            stage = opened.stage ∙ ap (after m fits (begin (row []) (pending_at v []) (0 / R)) (slot (row []) (pending_at v []) (0 / R))) (sym zero-mod);
+            stage = opened.stage ∙ ap (after m fits (begin (row []) (pending_at v []) (0 / R)) (slot (row []) (pending_at v []) (0 / R))) (sym zero_mod);
             content = ap G.content opened.duty ∙ content;
           },
         )

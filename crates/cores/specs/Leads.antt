@@ -14,7 +14,7 @@ pub record Leading (n : ℕ) (sets : List ℕ) (g : ℕ) : Type 0 where
   pub smallest : (h : ℕ) → MeetsAll n sets h → count n g ≤ count n h
   pub lowest : (h : ℕ) → MeetsAll n sets h → count n h ≡ count n g → g ≤ h
 
--- Meets-all as a test
+-- MeetsAll as a test
 abbrev pub meets_all : ℕ → List ℕ → ℕ → Bool
 meets_all n sets g = every (λ s. meets n s g) sets
 

@@ -54,6 +54,6 @@ abbrev pub every : (ℕ → Bool) → List ℕ → Bool
 every test [] = true
 every test (x ∷ xs) = test x && every test xs
 
--- Threes-share as a test
+-- ThreesShare as a test
 abbrev pub threes_share : ℕ → List ℕ → Bool
 threes_share n sets = every (λ a. every (λ b. every (λ c. shares n a b c) sets) sets) sets

@@ -17,17 +17,17 @@ first_or old bay [] = old
 first_or old bay (grant ∷ grants) = cond (eqb (bay_of grant) bay) (amps_in grant) (first_or old bay grants)
 
 -- one grant before all others counts as what the bay had before
-firstOr_push : (old bay : ℕ) (grants : List Code) (grant : Code) → first_or old bay (grants ++ grant ∷ []) ≡ first_or (cond (eqb (bay_of grant) bay) (amps_in grant) old) bay grants
-firstOr_push old bay [] grant = refl
-firstOr_push old bay (g ∷ gs) grant = ap (λ x. cond (eqb (bay_of g) bay) (amps_in g) x) (firstOr_push old bay gs grant)
+first_or_push : (old bay : ℕ) (grants : List Code) (grant : Code) → first_or old bay (grants ++ grant ∷ []) ≡ first_or (cond (eqb (bay_of grant) bay) (amps_in grant) old) bay grants
+first_or_push old bay [] grant = refl
+first_or_push old bay (g ∷ gs) grant = ap (λ x. cond (eqb (bay_of g) bay) (amps_in g) x) (first_or_push old bay gs grant)
 
-firstOr_none : (bay : ℕ) (grants : List Code) → first_or 0 bay grants ≡ first_for bay grants
-firstOr_none bay [] = refl
-firstOr_none bay (g ∷ gs) = ap (λ x. cond (eqb (bay_of g) bay) (amps_in g) x) (firstOr_none bay gs)
+first_or_none : (bay : ℕ) (grants : List Code) → first_or 0 bay grants ≡ first_for bay grants
+first_or_none bay [] = refl
+first_or_none bay (g ∷ gs) = ap (λ x. cond (eqb (bay_of g) bay) (amps_in g) x) (first_or_none bay gs)
 
 -- what a bay has once a grant's bay is replaced
-getD_replaced : (amps : List ℕ) (grant : Code) (bay : ℕ) → bay_of grant < length amps → get_or (replaced amps grant) bay 0 ≡ cond (eqb (bay_of grant) bay) (amps_in grant) (get_or amps bay 0)
-getD_replaced amps grant bay inside =
+get_or_replaced : (amps : List ℕ) (grant : Code) (bay : ℕ) → bay_of grant < length amps → get_or (replaced amps grant) bay 0 ≡ cond (eqb (bay_of grant) bay) (amps_in grant) (get_or amps bay 0)
+get_or_replaced amps grant bay inside =
     elim (cases_Bool (eqb (bay_of grant) bay)) [
       | inl same ↦
           rw same (rw (sym (eqb-true (bay_of grant) bay same)) (get_or-set_same amps (bay_of grant) (amps_in grant) 0 inside))
@@ -36,17 +36,17 @@ getD_replaced amps grant bay inside =
     ]
 
 -- on a new board each bay has 0, and so have those that do not exist
-getD_zeros : (n bay : ℕ) → ◌≡◌ {A = ℕ} (get_or (replicate n 0) bay 0) 0
-getD_zeros zero bay = refl
-getD_zeros (suc n) zero = refl
-getD_zeros (suc n) (suc bay) = getD_zeros n bay
+get_or_zeros : (n bay : ℕ) → ◌≡◌ {A = ℕ} (get_or (replicate n 0) bay 0) 0
+get_or_zeros zero bay = refl
+get_or_zeros (suc n) zero = refl
+get_or_zeros (suc n) (suc bay) = get_or_zeros n bay
 
 module _ (s : Settings) where
   -- what one grant does: nothing, or it is taken, within the feed
   abbrev Moves : List ℕ → Code → List ℕ → Bool → Type 0
-  Moves amps grant amps' is-taken' =
-      ((amps' ≡ amps) × (is-taken' ≡ false)) ⊎
-      ((amps' ≡ replaced amps grant) × (is-taken' ≡ true) × (bay_of grant < s.bays) × (sum (replaced amps grant) ≤ s.feed))
+  Moves amps grant amps' is_taken' =
+      ((amps' ≡ amps) × (is_taken' ≡ false)) ⊎
+      ((amps' ≡ replaced amps grant) × (is_taken' ≡ true) × (bay_of grant < s.bays) × (sum (replaced amps grant) ≤ s.feed))
 
   moves : (amps : List ℕ) (grant : Code) → Moves amps grant (next fitting step s amps grant) (takes fitting step s amps grant)
   moves amps grant =
@@ -78,10 +78,10 @@ module _ (s : Settings) where
     last_grant : (bay : ℕ) → get_or amps' bay 0 ≡ first_or (get_or amps bay 0) bay (reverse taken)
 
   -- one grant more before the others
-  from_more : (amps : List ℕ) (grant : Code) (between : List ℕ) (is-taken' : Bool) (taken : List Code) (amps' : List ℕ) → length amps ≡ s.bays → Moves amps grant between is-taken' → From between taken amps' → From amps (cond is-taken' (grant ∷ taken) taken) amps'
-  from_more amps grant between is-taken' taken amps' full (inl stays) f =
+  from_more : (amps : List ℕ) (grant : Code) (between : List ℕ) (is_taken' : Bool) (taken : List Code) (amps' : List ℕ) → length amps ≡ s.bays → Moves amps grant between is_taken' → From between taken amps' → From amps (cond is_taken' (grant ∷ taken) taken) amps'
+  from_more amps grant between is_taken' taken amps' full (inl stays) f =
       rw stays.1 (subst (λ xs. From xs taken amps') stays.0 f)
-  from_more amps grant between is-taken' taken amps' full (inr goes) f =
+  from_more amps grant between is_taken' taken amps' full (inr goes) f =
       let inside : bay_of grant < length amps = omega (arith, goes.2) in
       rw goes.1
       (record {
@@ -90,19 +90,19 @@ module _ (s : Settings) where
         last_grant = λ bay.
             f.last_grant bay
             ∙ ap (λ xs. first_or (get_or xs bay 0) bay (reverse taken)) goes.0
-            ∙ ap (λ x. first_or x bay (reverse taken)) (getD_replaced amps grant bay inside)
-            ∙ sym (firstOr_push (get_or amps bay 0) bay (reverse taken) grant)
+            ∙ ap (λ x. first_or x bay (reverse taken)) (get_or_replaced amps grant bay inside)
+            ∙ sym (first_or_push (get_or amps bay 0) bay (reverse taken) grant)
             ∙ ap (first_or (get_or amps bay 0) bay) (sym (reverse-cons grant taken));
       })
 
   -- a grant leaves the number of bays and keeps within the feed
-  moved_bays : (amps : List ℕ) (grant : Code) (between : List ℕ) (is-taken' : Bool) → Moves amps grant between is-taken' → length amps ≡ s.bays → length between ≡ s.bays
-  moved_bays amps grant between is-taken' (inl stays) full = ap length stays.0 ∙ full
-  moved_bays amps grant between is-taken' (inr goes) full = ap length goes.0 ∙ length-set amps (bay_of grant) (amps_in grant) ∙ full
+  moved_bays : (amps : List ℕ) (grant : Code) (between : List ℕ) (is_taken' : Bool) → Moves amps grant between is_taken' → length amps ≡ s.bays → length between ≡ s.bays
+  moved_bays amps grant between is_taken' (inl stays) full = ap length stays.0 ∙ full
+  moved_bays amps grant between is_taken' (inr goes) full = ap length goes.0 ∙ length-set amps (bay_of grant) (amps_in grant) ∙ full
 
-  moved_within : (amps : List ℕ) (grant : Code) (between : List ℕ) (is-taken' : Bool) → Moves amps grant between is-taken' → sum amps ≤ s.feed → sum between ≤ s.feed
-  moved_within amps grant between is-taken' (inl stays) within = rw stays.0 within
-  moved_within amps grant between is-taken' (inr goes) within = rw goes.0 goes.3
+  moved_within : (amps : List ℕ) (grant : Code) (between : List ℕ) (is_taken' : Bool) → Moves amps grant between is_taken' → sum amps ≤ s.feed → sum between ≤ s.feed
+  moved_within amps grant between is_taken' (inl stays) within = rw stays.0 within
+  moved_within amps grant between is_taken' (inr goes) within = rw goes.0 goes.3
 
   from_all : (amps : List ℕ) → length amps ≡ s.bays → sum amps ≤ s.feed → (values : List Code) → From amps (taken fitting step s amps values) (after fitting step s amps values)
   from_all amps full within [] = record { all_bays = full; within_feed = within; last_grant = λ bay. refl }
@@ -121,6 +121,6 @@ module _ (s : Settings) where
         within_feed = f.within_feed;
         last_grant = λ bay.
             f.last_grant bay
-            ∙ ap (λ x. first_or x bay (reverse (taken fitting step s amps values))) (ap (λ xs. get_or xs bay 0) new ∙ getD_zeros s.bays bay)
-            ∙ firstOr_none bay (reverse (taken fitting step s amps values));
+            ∙ ap (λ x. first_or x bay (reverse (taken fitting step s amps values))) (ap (λ xs. get_or xs bay 0) new ∙ get_or_zeros s.bays bay)
+            ∙ first_or_none bay (reverse (taken fitting step s amps values));
       }

@@ -18,7 +18,7 @@ last_plan plans = first_plan (reverse plans)
 
 -- in force is the last plan taken, or 0
 abbrev pub Kept : List Code → ℕ → Type 0
-Kept taken in-force = in-force ≡ last_plan taken
+Kept taken in_force = in_force ≡ last_plan taken
 
 -- a new book keeps this for ever
 abbrev pub Lasting : Result PlanBook SettingsRefusal → Type 0

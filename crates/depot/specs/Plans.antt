@@ -22,4 +22,4 @@ fitting highest plan = nat_le 1 (plan_of plan) && nat_le (plan_of plan) highest
 
 -- a plan is always taken, and is then in force
 abbrev pub step : ℕ → ℕ → Code → ℕ × Outcome
-step highest in-force plan = (plan_of plan, Taken)
+step highest in_force plan = (plan_of plan, Taken)

@@ -45,13 +45,13 @@ least_push low (m ∷ ns) n = least_push (suc m) ns n
 
 -- ---- one more controller
 -- those of g and n, where g is below 2 ^ n
-in-with : (n g i : ℕ) → g < 2 ^ n → i ∈ (g + 2 ^ n) → (i ∈ g) ⊎ (i ≡ n)
-in-with zero g zero l p = inr refl
-in-with zero g (suc i) l p = let e : (g + 2 ^ zero) / 2 ≡ 0 = omega arith in absurd (none_in i (subst (λ x. i ∈ x) e (in_half i (g + 2 ^ zero) p)))
-in-with (suc n) g zero l p = inl (odd_in g (omega (arith, in_odd (g + 2 ^ suc n) p, pow-suc 2 n)))
-in-with (suc n) g (suc i) l p =
+in_with : (n g i : ℕ) → g < 2 ^ n → i ∈ (g + 2 ^ n) → (i ∈ g) ⊎ (i ≡ n)
+in_with zero g zero l p = inr refl
+in_with zero g (suc i) l p = let e : (g + 2 ^ zero) / 2 ≡ 0 = omega arith in absurd (none_in i (subst (λ x. i ∈ x) e (in_half i (g + 2 ^ zero) p)))
+in_with (suc n) g zero l p = inl (odd_in g (omega (arith, in_odd (g + 2 ^ suc n) p, pow-suc 2 n)))
+in_with (suc n) g (suc i) l p =
     let e : (g + 2 ^ suc n) / 2 ≡ g / 2 + 2 ^ n = omega (arith, pow-suc 2 n) in
-    ⊎_elim (λ m. inl (half_in i g m)) (λ is. inr (ap suc is)) (in-with n (g / 2) i (omega (arith, pow-suc 2 n)) (subst (λ x. i ∈ x) e (in_half i (g + 2 ^ suc n) p)))
+    ⊎_elim (λ m. inl (half_in i g m)) (λ is. inr (ap suc is)) (in_with n (g / 2) i (omega (arith, pow-suc 2 n)) (subst (λ x. i ∈ x) e (in_half i (g + 2 ^ suc n) p)))
 
 with_in : (n g i : ℕ) → g < 2 ^ n → (i ∈ g) ⊎ (i ≡ n) → i ∈ (g + 2 ^ n)
 with_in zero g zero l p = odd_in (g + 2 ^ zero) (omega arith)
@@ -98,7 +98,7 @@ grouped_more ns low n (Some g) le b k = go (ltb n 16) refl
           (
             omega (arith, within, most),
             λ i. (
-              λ m. listed_push i n ns (⊎_elim (λ x. inl ((k.1 i).0 x)) inr (in-with n g i small m)),
+              λ m. listed_push i n ns (⊎_elim (λ x. inl ((k.1 i).0 x)) inr (in_with n g i small m)),
               λ l. with_in n g i small (⊎_elim (λ x. inl ((k.1 i).1 x)) inr (push_listed i n ns l)),
             ),
           ),

@@ -7,11 +7,11 @@ use Rattle.fields.specs.declared.faults.FieldFault.{FieldFault}
 
 -- The first faulty, missing or surplus field is the j-th, from 0: the fields before it begin a list that is in form; with it they begin none, or where
 -- it is missing the list is not whole.
-pub record Departs (In-form : List (List ℕ) → Type 0) (fs : List (List ℕ)) (j : ℕ) : Type 0 where
-  pub before : (more : List (List ℕ)) × In-form (take j fs ++ more)
+pub record Departs (InForm : List (List ℕ) → Type 0) (fs : List (List ℕ)) (j : ℕ) : Type 0 where
+  pub before : (more : List (List ℕ)) × InForm (take j fs ++ more)
   pub within : j ≤ length fs
-  pub faulty : (more : List (List ℕ)) → j < length fs → In-form (take (suc j) fs ++ more) → ⊥
-  pub missing : length fs ≤ j → In-form fs → ⊥
+  pub faulty : (more : List (List ℕ)) → j < length fs → InForm (take (suc j) fs ++ more) → ⊥
+  pub missing : length fs ≤ j → InForm fs → ⊥
 
 -- the number of the j-th field after the first, from 0, as far as 32 bits go; in a line of at most 256 bytes it is j + 2
 abbrev pub field_number : ℕ → ℕ

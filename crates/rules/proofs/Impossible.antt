@@ -125,10 +125,10 @@ no_middle outer outer h k = refl
 no_middle outer middle h k = absurd (true≢false k)
 no_middle outer inner h k = refl
 
-in-first : {X Y : Type 0} (d : Dec X) (e : Dec Y) → X → Outer? (part_of d e) ≡ false
-in-first (no f) e x = absurd (f x)
-in-first (yes a) (no g) x = refl
-in-first (yes a) (yes b) x = refl
+in_first : {X Y : Type 0} (d : Dec X) (e : Dec Y) → X → Outer? (part_of d e) ≡ false
+in_first (no f) e x = absurd (f x)
+in_first (yes a) (no g) x = refl
+in_first (yes a) (yes b) x = refl
 
 not_both : {X Y : Type 0} (d : Dec X) (e : Dec Y) → (X × Y → ⊥) → Inner? (part_of d e) ≡ false
 not_both (no f) e g = refl
@@ -170,7 +170,7 @@ module _ (r : Rule) (n : ℕ) (sets : List ℕ) (serves : Serves r n sets) (a b 
     where
       served : Decides r n A (λ _. given r n A B k) (λ t q. doubled r n A B t k q)
       served = serves A (a, lacking.0, λ i j m. m) (λ _. given r n A B k) (λ t q. doubled r n A B t k q) (λ t q. hears r n A B t k q)
-          (run r n A B A (λ _. k) (λ x y l m u v. no_outer (part A B x) (part A B y) k (in-first (member? A x) (member? B x) u) (in-first (member? A y) (member? B y) v)))
+          (run r n A B A (λ _. k) (λ x y l m u v. no_outer (part A B x) (part A B y) k (in_first (member? A x) (member? B x) u) (in_first (member? A y) (member? B y) v)))
 
   outside? : (i : ℕ) → Dec ((i ∈ A) × (i ∈ B) → ⊥)
   outside? i = Dec.not (Dec.and (member? A i) (member? B i))

@@ -11,7 +11,7 @@ use Rattle.depot.proofs.boards.Board.new.Goals as goal
 pub invariant_of-result : goal.invariant_of-result
 invariant_of-result c =
     let few : c.args.bays ≤ 64 = omega arith in
-    let zero-sum = ap sum (amps_new c.args.bays c.new.result.records few c.new.ensures) ∙ sum_zeros c.args.bays in
+    let zero_sum = ap sum (amps_new c.args.bays c.new.result.records few c.new.ensures) ∙ sum_zeros c.args.bays in
     record { some = omega arith; few = few; rated = omega arith; within = omega arith; unused = unused_new c.args.bays c.new.result.records c.new.ensures }
 
 pub returns : goal.returns
