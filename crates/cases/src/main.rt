@@ -3,7 +3,7 @@
 #![tactic(auto)]
 
 mod drafts;
-mod rounds;
+mod stages;
 mod thresholds;
 mod worked;
 
@@ -23,7 +23,7 @@ fn run(rt: &HostRuntime) -> anyhow::Result<()> {
     println!(rt; "")?;
     thresholds::greatest(rt)?;
     println!(rt; "")?;
-    rounds::rounds(rt)
+    stages::rounds(rt)
 }
 
 fn main(rt: HostRuntime) -> anyhow::Result<()> {

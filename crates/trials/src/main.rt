@@ -7,7 +7,7 @@ mod dice;
 mod drafts;
 mod naive;
 mod plain_rounds;
-mod rounds;
+mod slots;
 mod timing;
 
 use std::env;
@@ -19,7 +19,7 @@ fn run(rt: &HostRuntime) -> anyhow::Result<()> {
         }
     }
     drafts::compare(rt)?;
-    rounds::compare(rt)
+    slots::compare(rt)
 }
 
 fn main(rt: HostRuntime) -> anyhow::Result<()> {

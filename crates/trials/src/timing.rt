@@ -2,7 +2,7 @@
 
 use crate::naive::Naive;
 use crate::plain_rounds::{Answer, Plain, Word};
-use crate::rounds::plans;
+use crate::slots::plans;
 use anyhow::anyhow;
 use depot::{Plan, PlanBook};
 use duty::Duty;
