@@ -105,8 +105,8 @@ parted [] = record { first = []; after = []; whole = refl; joined = refl; bare =
 parted (b ∷ bs) = part_front b bs (fields bs) (b == 9) refl (parted bs)
 
 fields_line : (first : List ℕ) (after : List (List ℕ)) → Lacks 9 first → AllByRecursion (Lacks 9) after → fields (line_of first after) ≡ first ∷ after
-fields_line first [] l a = field_whole first l
-fields_line first (f ∷ fs) l a = field_front first (line_of f fs) l ∙ ap (λ gs. first ∷ gs) (fields_line f fs a.0 a.1)
+fields_line first [] l ls = field_whole first l
+fields_line first (f ∷ fs) l ls = field_front first (line_of f fs) l ∙ ap (λ gs. first ∷ gs) (fields_line f fs ls.0 ls.1)
 
 pub parts : FieldsPart
 parts = (parted, λ line fs p. p.whole ∙ sym (fields_line p.first p.after p.bare.0 p.bare.1) ∙ ap fields (sym p.joined))

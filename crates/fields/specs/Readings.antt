@@ -33,13 +33,20 @@ one_plan f p q a b = let e : p.0 ≡ q.0 = one_number f p.0 q.0 a b in ap (λ n.
 
 -- and one grant at most
 pub one_grant : SaysOne GrantText
-one_grant f g h a b =
-    let same = same_cut 47 (numeral g.bay) (numeral h.bay) (numeral g.amps) (numeral h.amps) (numeral_lacks 47 g.bay a.0 (omega arith)) (numeral_lacks 47 h.bay b.0 (omega arith)) (sym a.2 ∙ b.2) in
-    let bays : g.bay ≡ h.bay = one_number (numeral g.bay) g.bay h.bay (a.0, refl) (b.0, same.0) in
-    let amps : g.amps ≡ h.amps = one_number (numeral g.amps) g.amps h.amps (a.1, refl) (b.1, same.1) in
+one_grant f g h by_g by_h =
+    let same = same_cut 47 (numeral g.bay) (numeral h.bay) (numeral g.amps) (numeral h.amps) (numeral_lacks 47 g.bay by_g.0 (omega arith)) (numeral_lacks 47 h.bay by_h.0 (omega arith)) (sym by_g.2 ∙ by_h.2) in
+    let bays : g.bay ≡ h.bay = one_number (numeral g.bay) g.bay h.bay (by_g.0, refl) (by_h.0, same.0) in
+    let amps : g.amps ≡ h.amps = one_number (numeral g.amps) g.amps h.amps (by_g.1, refl) (by_h.1, same.1) in
     ap (λ x. record { bay = x; amps = g.amps }) bays ∙ ap (λ x. record { bay = h.bay; amps = x }) amps
 
--- a grant's field is not empty
+-- a number's field is not empty, nor a plan's
+pub some_number : (f : List ℕ) (n : ℕ) → Number f n → 0 < length f
+some_number f n h = (first f n h).0
+
+pub some_plan : (f : List ℕ) (p : Plan) → PlanText f p → 0 < length f
+some_plan f p h = some_number f p.0 h
+
+-- nor a grant's
 pub some_grant : (f : List ℕ) (g : Grant) → GrantText f g → 0 < length f
 some_grant f g h = omega (arith, ap length h.2, length-append (numeral g.bay) (47 ∷ numeral g.amps))
 

@@ -3,8 +3,8 @@ ghost use Rattle.std.specs.Prelude.{ℕ, ◌<◌, List, length, codes};
 ghost use Rattle.fields.specs.Numbers.{Number, numeral};
 ghost use Rattle.fields.specs.Reading.{Reads, SaysOne};
 ghost use Rattle.fields.specs.Values.{PlanText, GrantText, grant_text};
-ghost use Rattle.fields.specs.Numerals.{first, one_number};
-ghost use Rattle.fields.specs.Readings.{one_plan, some_grant, one_grant, no_dash_number, no_dash_plan, no_dash_grant, zero_number, zero_plan, zero_grant};
+ghost use Rattle.fields.specs.Numerals.{one_number};
+ghost use Rattle.fields.specs.Readings.{some_number, some_plan, some_grant, one_plan, one_grant, no_dash_number, no_dash_plan, no_dash_grant, zero_number, zero_plan, zero_grant};
 ghost use Rattle.depot.specs.declared.values.Grant.{Grant};
 
 use crate::cuts::cut;
@@ -32,7 +32,7 @@ pub trait Value: Copy {
 impl Value for u32 {
     ghost says = { Number };
 
-    ghost some = { λ f n h. (first f n h).0 };
+    ghost some = { some_number };
 
     ghost one = { one_number };
 
@@ -48,7 +48,7 @@ impl Value for u32 {
 impl Value for Plan {
     ghost says = { PlanText };
 
-    ghost some = { λ f p h. (first f p.0 h).0 };
+    ghost some = { some_plan };
 
     ghost one = { one_plan };
 

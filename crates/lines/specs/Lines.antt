@@ -17,11 +17,11 @@ SealForm fs u = fs ≡ []
 
 -- `plans`: the highest plan and the first proposal
 abbrev pub PlansForm : List (List ℕ) → ℕ × Plan → Type 0
-PlansForm fs a = (f : List ℕ) × (g : List ℕ) × (fs ≡ f ∷ g ∷ []) × Number f a.0 × PlanText g a.1
+PlansForm fs said = (f : List ℕ) × (g : List ℕ) × (fs ≡ f ∷ g ∷ []) × Number f said.0 × PlanText g said.1
 
 -- `board`: how many bays, the feed, and the first proposal
 abbrev pub BoardForm : List (List ℕ) → ℕ × ℕ × Grant → Type 0
-BoardForm fs a = (f : List ℕ) × (g : List ℕ) × (h : List ℕ) × (fs ≡ f ∷ g ∷ h ∷ []) × Number f a.0 × Number g a.1 × GrantText h a.2
+BoardForm fs said = (f : List ℕ) × (g : List ℕ) × (h : List ℕ) × (fs ≡ f ∷ g ∷ h ∷ []) × Number f said.0 × Number g said.1 × GrantText h said.2
 
 -- `offer`: a value
 abbrev pub OfferForm : {V : Type 0} → (List ℕ → V → Type 0) → List (List ℕ) → V → Type 0

@@ -28,17 +28,17 @@ use Rattle.text.proofs.DraftLines.{there}
 use Rattle.text.proofs.Stays.{row_refused, offer_refused}
 
 -- ---- opening
-pub opens_plans : (y y' : Yard) (t : Table) (fs : List (List ℕ)) (a : ℕ × Plan) (b : PlanBook) (o : Result (Controller Table PlanBook Plan) (Unopened Table PlanBook)) (r : Result Reply Fault) →
-    y.table ≡ Some t → PlansForm fs a → books.Made a.0 (Ok b) → Opens table_structure book_duty plan_kind t b a.1 o → OpeningTold book_duty plan_kind PlanText Agreeds.Plan Runnings.Plans o y r y' → OpensPlans y fs r y'
-opens_plans y y' t fs a b o r table form made opens told =
-    there (λ t. ReadsThen PlansForm fs (λ a y r y'.
-    (m : Result PlanBook SettingsRefusal) × books.Made a.0 m × OpensOn book_duty plan_kind PlanText Agreeds.Plan Runnings.Plans t a.1 m y r y')) y.table t y y' r table (Ok a, form, (Ok b, made, (o, opens, told)))
+pub opens_plans : (y y' : Yard) (t : Table) (fs : List (List ℕ)) (said : ℕ × Plan) (b : PlanBook) (o : Result (Controller Table PlanBook Plan) (Unopened Table PlanBook)) (r : Result Reply Fault) →
+    y.table ≡ Some t → PlansForm fs said → books.Made said.0 (Ok b) → Opens table_structure book_duty plan_kind t b said.1 o → OpeningTold book_duty plan_kind PlanText Agreeds.Plan Runnings.Plans o y r y' → OpensPlans y fs r y'
+opens_plans y y' t fs said b o r table form made opens told =
+    there (λ t. ReadsThen PlansForm fs (λ said y r y'.
+    (m : Result PlanBook SettingsRefusal) × books.Made said.0 m × OpensOn book_duty plan_kind PlanText Agreeds.Plan Runnings.Plans t said.1 m y r y')) y.table t y y' r table (Ok said, form, (Ok b, made, (o, opens, told)))
 
-pub opens_board : (y y' : Yard) (t : Table) (fs : List (List ℕ)) (a : ℕ × ℕ × Grant) (b : Board) (o : Result (Controller Table Board Grant) (Unopened Table Board)) (r : Result Reply Fault) →
-    y.table ≡ Some t → BoardForm fs a → boards.Made (record { bays = a.0; feed = a.1 }) (Ok b) → Opens table_structure board_duty grant_kind t b a.2 o → OpeningTold board_duty grant_kind GrantText Agreeds.Grant Runnings.Board o y r y' → OpensBoard y fs r y'
-opens_board y y' t fs a b o r table form made opens told =
-    there (λ t. ReadsThen BoardForm fs (λ a y r y'.
-    (m : Result Board SettingsRefusal) × boards.Made (record { bays = a.0; feed = a.1 }) m × OpensOn board_duty grant_kind GrantText Agreeds.Grant Runnings.Board t a.2 m y r y')) y.table t y y' r table (Ok a, form, (Ok b, made, (o, opens, told)))
+pub opens_board : (y y' : Yard) (t : Table) (fs : List (List ℕ)) (said : ℕ × ℕ × Grant) (b : Board) (o : Result (Controller Table Board Grant) (Unopened Table Board)) (r : Result Reply Fault) →
+    y.table ≡ Some t → BoardForm fs said → boards.Made (record { bays = said.0; feed = said.1 }) (Ok b) → Opens table_structure board_duty grant_kind t b said.2 o → OpeningTold board_duty grant_kind GrantText Agreeds.Grant Runnings.Board o y r y' → OpensBoard y fs r y'
+opens_board y y' t fs said b o r table form made opens told =
+    there (λ t. ReadsThen BoardForm fs (λ said y r y'.
+    (m : Result Board SettingsRefusal) × boards.Made (record { bays = said.0; feed = said.1 }) m × OpensOn board_duty grant_kind GrantText Agreeds.Grant Runnings.Board t said.2 m y r y')) y.table t y y' r table (Ok said, form, (Ok b, made, (o, opens, told)))
 
 -- ---- driving
 -- the controller that stood is put back

@@ -21,7 +21,7 @@ module _ {D V : Type 0} (G : Duty D V) (K : Same V) (Says : List ℕ → V → T
   unheard : (c c' : Controller Table D V) (ws : List (Option V)) (e : RowRefusal) → Hears table_structure G K c ws (Err e) c' → c' ≡ c
   unheard c c' ws e h =
       ⊎_elim
-      (λ same. let a = h.accepted same in let z : ◌≡◌ {A = ℕ} 0 1 = let x = a.1 in cc in absurd (omega arith))
+      (λ same. let heard = h.accepted same in let z : ◌≡◌ {A = ℕ} 0 1 = let x = heard.1 in cc in absurd (omega arith))
       (λ differ. (h.refused differ).1)
       (cases_eq (length ws) (runs_on table_structure c).size)
 
@@ -40,7 +40,7 @@ module _ {D V : Type 0} (G : Duty D V) (K : Same V) (Says : List ℕ → V → T
   untaken c c' v e o = go (fits_on G c (K.code v)) refl
     where
       go : (t : Bool) → fits_on G c (K.code v) ≡ t → c' ≡ c
-      go true is = let a = o.taken is in let z : ◌≡◌ {A = ℕ} 0 1 = let x = a.0 in cc in absurd (omega arith)
+      go true is = let taken = o.taken is in let z : ◌≡◌ {A = ℕ} 0 1 = let x = taken.0 in cc in absurd (omega arith)
       go false is = (o.refused is).1
 
   pub offer_refused : (c c' : Controller Table D V) (fs : List (List ℕ)) (f : Fault) → Offered G K Says agreed running c fs (Err f) c' → c' ≡ c

@@ -110,13 +110,13 @@ module _ {D V : Type 0} (G : Duty D V) (K : Same V) (Says : List ℕ → V → T
 -- ---- `plans` and `board`: a controller on the sealed table, in place of any that stood
 abbrev pub OpensPlans : Yard → List (List ℕ) → Result Reply Fault → Yard → Type 0
 OpensPlans y fs r y' =
-    Needs y.table (λ t. ReadsThen PlansForm fs (λ a y r y'.
-    (m : Result PlanBook SettingsRefusal) × books.Made a.0 m × OpensOn book_duty plan_kind PlanText Agreeds.Plan Runnings.Plans t a.1 m y r y')) y r y'
+    Needs y.table (λ t. ReadsThen PlansForm fs (λ said y r y'.
+    (m : Result PlanBook SettingsRefusal) × books.Made said.0 m × OpensOn book_duty plan_kind PlanText Agreeds.Plan Runnings.Plans t said.1 m y r y')) y r y'
 
 abbrev pub OpensBoard : Yard → List (List ℕ) → Result Reply Fault → Yard → Type 0
 OpensBoard y fs r y' =
-    Needs y.table (λ t. ReadsThen BoardForm fs (λ a y r y'.
-    (m : Result Board SettingsRefusal) × boards.Made (record { bays = a.0; feed = a.1 }) m × OpensOn board_duty grant_kind GrantText Agreeds.Grant Runnings.Board t a.2 m y r y')) y r y'
+    Needs y.table (λ t. ReadsThen BoardForm fs (λ said y r y'.
+    (m : Result Board SettingsRefusal) × boards.Made (record { bays = said.0; feed = said.1 }) m × OpensOn board_duty grant_kind GrantText Agreeds.Grant Runnings.Board t said.2 m y r y')) y r y'
 
 -- ---- `offer` and `hear`, by the controller that stands
 abbrev pub OffersWith : List (List ℕ) → Running → Yard → Result Reply Fault → Yard → Type 0

@@ -1,5 +1,5 @@
 //! The line that is being read, and the answers that wait to be written.
-ghost use Rattle.std.specs.Prelude.{◌≡◌, ◌+◌, ◌≤◌, [], ◌∷◌, ◌++◌, length, take};
+ghost use Rattle.std.specs.Prelude.{◌≡◌, ◌+◌, ◌<◌, ◌≤◌, [], ◌∷◌, ◌++◌, length, take, nat_lt, nat_le};
 
 /// How many bytes are read or written at a time.
 pub const BLOCK: usize = 65536;
@@ -13,6 +13,7 @@ pub struct Line {
 }
 
 impl Line {
+    /// A line of which nothing was read.
     pub fn new() -> Line
         ensures { take result.len result.bytes ≡ [] }
     {
@@ -22,7 +23,10 @@ impl Line {
         }
     }
 
-    pub fn has_begun(&self) -> bool {
+    /// Whether a byte was read.
+    pub fn has_begun(&self) -> bool
+        ensures { result ≡ nat_lt 0 (length (take self.now.len self.now.bytes)) }
+    {
         self.len > 0
     }
 
@@ -33,6 +37,7 @@ impl Line {
         &self.bytes[0..self.len]
     }
 
+    /// Reads a byte. What comes after the first 257 is not kept.
     pub fn add(&mut self, byte: u8)
         ensures { take self.new.len self.new.bytes ≡ take 257 (take self.old.len self.old.bytes ++ (byte ∷ [])) }
     {
@@ -42,6 +47,7 @@ impl Line {
         }
     }
 
+    /// Begins the next line.
     pub fn clear(&mut self)
         ensures { take self.new.len self.new.bytes ≡ [] }
     {
@@ -53,47 +59,53 @@ impl Line {
 #[derive(Drop)]
 pub struct Answers {
     bytes: [u8; BLOCK],
-    len: usize,
-    ghost within: { len ≤ 65536 },
+    // how many of them are taken up
+    filled: usize,
+    ghost within: { filled ≤ 65536 },
 }
 
 impl Answers {
+    /// No answers.
     pub fn new() -> Answers
-        ensures { take result.len result.bytes ≡ [] }
+        ensures { take result.filled result.bytes ≡ [] }
     {
         Answers {
             bytes: [0; BLOCK],
-            len: 0,
+            filled: 0,
         }
     }
 
     /// Whether another answer, which has at most 64 bytes, has room.
-    pub fn has_room(&self) -> bool {
-        self.len <= BLOCK - 64
+    pub fn has_room(&self) -> bool
+        ensures { result ≡ nat_le (length (take self.now.filled self.now.bytes) + 64) 65536 }
+    {
+        self.filled <= BLOCK - 64
     }
 
     /// The answers, one after another.
     pub fn bytes(&self) -> &[u8]
-        ensures { result.now ≡ take self.now.len self.now.bytes }
+        ensures { result.now ≡ take self.now.filled self.now.bytes }
     {
-        &self.bytes[0..self.len]
+        &self.bytes[0..self.filled]
     }
 
     /// Adds an answer, if it has room.
     pub fn add(&mut self, answer: &[u8])
-        ensures { self.old.len + length answer.now ≤ 65536 → take self.new.len self.new.bytes ≡ take self.old.len self.old.bytes ++ answer.now }
+        ensures room { self.old.filled + length answer.now ≤ 65536 → take self.new.filled self.new.bytes ≡ take self.old.filled self.old.bytes ++ answer.now }
+        ensures full { 65536 < self.old.filled + length answer.now → self.new ≡ self.old }
     {
-        let at = self.len;
+        let at = self.filled;
         let n = answer.len();
         if n <= BLOCK - at {
             self.bytes[at..at + n].copy_from_slice(answer);
-            self.len = at + n;
+            self.filled = at + n;
         }
     }
 
+    /// Lets go what was written.
     pub fn clear(&mut self)
-        ensures { take self.new.len self.new.bytes ≡ [] }
+        ensures { take self.new.filled self.new.bytes ≡ [] }
     {
-        self.len = 0;
+        self.filled = 0;
     }
 }
