@@ -74,9 +74,10 @@ impl Value for Grant {
 
     fn read(field: &[u8]) -> Option<Grant> {
         let (bay, amps) = cut(field, b'/');
+        let amps = amps?;
         Some(Grant {
             bay: number(bay)?,
-            amps: number(amps?)?,
+            amps: number(amps)?,
         })
     }
 }
