@@ -3,6 +3,8 @@
 ghost use Rattle.std.specs.Prelude.{◌≤◌};
 
 /// The line of an answer: at most 64 bytes, given by value.
+///
+/// An array and its length, since an answer is `Copy`, which the library's `ArrayVec` is not.
 #[derive(Clone, Copy)]
 pub struct Answer {
     pub(crate) bytes: [u8; 64],

@@ -7,6 +7,8 @@ use depot::SettingsRefusal;
 use duty::DutyRefusal;
 use engine::RowRefusal;
 use fields::FieldFault;
+use std::error::Error;
+use std::fmt;
 use survivor::DraftRefusal;
 
 /// Why a line was refused: by its own form, or by the layer below, whose fault is kept whole.
@@ -61,6 +63,35 @@ impl Fault {
         }
     }
 }
+
+impl fmt::Display for Fault {
+    fn fmt<W: fmt::Write>(&self, f: &mut fmt::Formatter<W>) -> fmt::Result {
+        match self {
+            Fault::TooLong => write!(f, "the line has more than 256 bytes"),
+            Fault::Field(fault) => write!(f, "{fault}"),
+            Fault::Absent => write!(
+                f,
+                "the line needs a draft, a sealed table or a controller that is not there"
+            ),
+            Fault::Draft(refusal) => write!(f, "{refusal}"),
+            Fault::Settings(refusal) => write!(f, "{refusal}"),
+            Fault::Duty(refusal) => write!(f, "{refusal}"),
+            Fault::Row(refusal) => write!(f, "{refusal}"),
+        }
+    }
+}
+
+impl Error for Fault {}
+
+impl fmt::Display for Refusal {
+    fn fmt<W: fmt::Write>(&self, f: &mut fmt::Formatter<W>) -> fmt::Result {
+        write!(f, "line {}: {}", self.line, self.fault)
+    }
+}
+
+impl Error for Refusal {}
+
+// The `From` of each layer's fault is written out, since clauses name the fault that `?` makes of it: a derived one has no contract.
 
 impl From<FieldFault> for Fault {
     ghost from_gives = { λ e r. r ≡ Field e };

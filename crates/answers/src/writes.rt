@@ -8,6 +8,7 @@ use crate::answers::Answer;
 use crate::faults::Fault;
 use crate::replies::{Agreed, Reply};
 use duty::Outcome;
+use itoa::Buffer;
 use survivor::Table;
 
 impl Answer {
@@ -28,40 +29,28 @@ impl Answer {
         &self.bytes[0..self.len]
     }
 
-    /// Adds a byte.
-    fn push(&mut self, byte: u8)
-        ensures { shown self.new ≡ clip (shown self.old ++ byte ∷ []) }
-    {
-        if self.len < 64 {
-            self.bytes[self.len] = byte;
-            self.len += 1;
-        }
-    }
-
     /// Adds bytes.
-    fn push_all(&mut self, more: &[u8])
+    fn push(&mut self, more: &[u8])
         ensures { shown self.new ≡ clip (shown self.old ++ more.now) }
     {
-        for byte in more {
-            self.push(*byte);
-        }
+        let at = self.len;
+        let end = at + more.len().min(64 - at);
+        self.bytes[at..end].copy_from_slice(&more[..end - at]);
+        self.len = end;
     }
 
     /// Adds a number's numeral.
     fn push_number(&mut self, n: usize)
         ensures { shown self.new ≡ clip (shown self.old ++ numeral n) }
     {
-        if n >= 10 {
-            self.push_number(n / 10);
-        }
-        self.push(b'0' + (n % 10) as u8);
+        self.push(Buffer::new().format(n).as_bytes());
     }
 
     /// Adds a tab and a number's numeral.
     fn push_after_tab(&mut self, n: usize)
         ensures { shown self.new ≡ clip (shown self.old ++ after_tab n) }
     {
-        self.push(b'\t');
+        self.push(b"\t");
         self.push_number(n);
     }
 
@@ -83,7 +72,7 @@ impl Answer {
             Agreed::Plan(plan) => self.push_number(plan.0 as usize),
             Agreed::Grant(grant) => {
                 self.push_number(grant.bay as usize);
-                self.push(b'/');
+                self.push(b"/");
                 self.push_number(grant.amps as usize);
             }
         }
@@ -95,21 +84,21 @@ impl Answer {
         ensures short { length (reply_text reply.now) ≤ 44 }
     {
         match reply {
-            Reply::Done => self.push_all(b"ok"),
+            Reply::Done => self.push(b"ok"),
             Reply::Sealed(table) => {
-                self.push_all(b"sealed");
+                self.push(b"sealed");
                 self.push_leads(table);
             }
             Reply::Round(round) => {
-                self.push_all(b"round");
+                self.push(b"round");
                 self.push_after_tab(usize::from(*round));
             }
             Reply::Closed(value, outcome) => {
-                self.push_all(b"closed\t");
+                self.push(b"closed\t");
                 self.push_value(value);
                 match outcome {
-                    Outcome::Taken => self.push_all(b"\ttaken"),
-                    Outcome::Aside(_) => self.push_all(b"\taside"),
+                    Outcome::Taken => self.push(b"\ttaken"),
+                    Outcome::Aside(_) => self.push(b"\taside"),
                 }
             }
         }
@@ -120,7 +109,7 @@ impl Answer {
         ensures after { shown self.new ≡ clip (shown self.old ++ fault_text fault) }
         ensures short { length (fault_text fault) ≤ 44 }
     {
-        self.push_all(b"refused");
+        self.push(b"refused");
         self.push_after_tab(usize::from(fault.number()));
         self.push_after_tab(fault.detail());
     }
@@ -142,9 +131,9 @@ impl Answer {
     {
         let mut answer = Answer::none();
         answer.push_number(line as usize);
-        answer.push(b'\t');
+        answer.push(b"\t");
         answer.push_came(came);
-        answer.push(b'\n');
+        answer.push(b"\n");
         answer
     }
 }

@@ -5,20 +5,20 @@ use Rattle.answers.proofs.answers.Answer.push_reply.Goals as goal
 
 pub returns-in-Sealed : goal.returns-in-Sealed
 returns-in-Sealed c =
-    let h = adds_sealed _ _ _ _ c.in-Sealed.table c.in-Sealed.is c.push_all-in-Sealed.ensures c.push_leads.ensures in
+    let h = adds_sealed _ _ _ _ c.in-Sealed.table c.in-Sealed.is c.push-in-Sealed.ensures c.push_leads.ensures in
     record { after = h.0; short = h.1 }
 
 pub returns-in-Round : goal.returns-in-Round
 returns-in-Round c =
-    let h = adds_round _ _ _ _ c.in-Round.round _ c.in-Round.is (omega arith) c.from.ensures c.push_all-in-Round.ensures c.push_after_tab.ensures in
+    let h = adds_round _ _ _ _ c.in-Round.round _ c.in-Round.is (omega arith) c.from.ensures c.push-in-Round.ensures c.push_after_tab.ensures in
     record { after = h.0; short = h.1 }
 
 pub returns-in-Taken : goal.returns-in-Taken
 returns-in-Taken c =
-    let h = adds_closed _ _ _ _ _ c.in-Closed.value c.in-Closed.outcome Taken c.in-Closed.is c.in-Taken.is c.push_all-in-Closed.ensures (c.push_value.ensures.after, c.push_value.ensures.short) c.push_all-in-Taken.ensures in
+    let h = adds_closed _ _ _ _ _ c.in-Closed.value c.in-Closed.outcome Taken c.in-Closed.is c.in-Taken.is c.push-in-Closed.ensures (c.push_value.ensures.after, c.push_value.ensures.short) c.push-in-Taken.ensures in
     record { after = h.0; short = h.1 }
 
 pub returns-in-Aside : goal.returns-in-Aside
 returns-in-Aside c =
-    let h = adds_closed _ _ _ _ _ c.in-Closed.value c.in-Closed.outcome (Aside _) c.in-Closed.is c.in-Aside.is c.push_all-in-Closed.ensures (c.push_value.ensures.after, c.push_value.ensures.short) c.push_all-in-Aside.ensures in
+    let h = adds_closed _ _ _ _ _ c.in-Closed.value c.in-Closed.outcome (Aside _) c.in-Closed.is c.in-Aside.is c.push-in-Closed.ensures (c.push_value.ensures.after, c.push_value.ensures.short) c.push-in-Aside.ensures in
     record { after = h.0; short = h.1 }
