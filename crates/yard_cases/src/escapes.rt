@@ -3,7 +3,7 @@
 //! `\t`, `\r` and `\\` stand for a tab, a carriage return and a backslash, `\x` and two digits for the byte with this number in
 //! base 16, and `\e` for nothing, as in an empty line. `\*126{..}` stands for what is in the braces, 126 times.
 
-use anyhow::anyhow;
+use anyhow::{bail, ensure};
 use std::alloc::Global;
 
 /// Where in an escape a line has been read to.
@@ -42,7 +42,7 @@ fn hex_digit(byte: u8) -> anyhow::Result<u8> {
     match byte {
         b'0'..=b'9' => Ok(byte - b'0'),
         b'a'..=b'f' => Ok(byte - b'a' + 10),
-        _ => Err(anyhow!("no digit in base 16 after \\x")),
+        _ => bail!("no digit in base 16 after \\x"),
     }
 }
 
@@ -88,7 +88,7 @@ impl Unfolding {
             b'e' => self.place = Place::Outside,
             b'x' => self.place = Place::High,
             b'*' => self.place = Place::Times(0),
-            _ => return Err(anyhow!("an unknown escape")),
+            _ => bail!("an unknown escape"),
         }
         Ok(())
     }
@@ -104,15 +104,13 @@ impl Unfolding {
                 Ok(())
             }
             b'{' => self.open(times),
-            _ => Err(anyhow!("no brace after the number of a repetition")),
+            _ => bail!("no brace after the number of a repetition"),
         }
     }
 
     /// Begins what stands in braces.
     fn open(&mut self, times: u32) -> anyhow::Result<()> {
-        if self.repeated.is_some() {
-            return Err(anyhow!("a repetition within another"));
-        }
+        ensure!(self.repeated.is_none(), "a repetition within another");
         self.place = Place::Outside;
         self.repeated = Some(Repeated {
             times,
@@ -150,7 +148,7 @@ impl Unfolding {
     fn end(self) -> anyhow::Result<Vec<u8>> {
         match (self.place, &self.repeated) {
             (Place::Outside, None) => Ok(self.bytes),
-            _ => Err(anyhow!("an escape without its end")),
+            _ => bail!("an escape without its end"),
         }
     }
 }
