@@ -42,6 +42,7 @@ fn expected(heap: Global, number: u32) -> Result<String, AllocError> {
 fn run_to_the_end(heap: Global, yard: &mut Yard) -> Result<u32, AllocError> {
     let mut differ = 0u32;
     let lines = OPENING.into_iter().chain(iter::repeat(ROW));
+    // counted by hand: the text that is expected is allocated, which may fail, and a closure of `filter` may not
     for (number, line) in (1..=LAST_LINE).zip(lines) {
         let answer = yard.answer(line);
         if answer.as_bytes() != expected(heap, number)?.as_bytes() {
