@@ -21,7 +21,7 @@ impl fmt::Display for Refused {
 
 /// A list as it is printed, with a space before each of its items.
 #[derive(Drop)]
-struct Listed<'a, T>(&'a [T]);
+pub struct Listed<'a, T>(pub &'a [T]);
 
 impl<T: fmt::Display> fmt::Display for Listed<'_, T> {
     fn fmt<W: fmt::Write>(&self, f: &mut fmt::Formatter<W>) -> fmt::Result {

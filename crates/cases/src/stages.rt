@@ -1,9 +1,9 @@
 //! The three rounds in the yard of four, of which any three are a set, with plans from 1 to 9.
 
-use crate::drafts::sealed;
+use crate::drafts::{Listed, sealed};
 use depot::{Plan, PlanBook};
 use engine::{Lead, Next, Poll, Row, RowRefusal, slot_rounds};
-use std::{fmt, io};
+use std::fmt;
 use survivor::Table;
 
 /// A word: a plan, or nothing.
@@ -26,14 +26,6 @@ impl fmt::Display for Shown {
             None => write!(f, "-"),
         }
     }
-}
-
-/// Prints the words of a row, with a space before each.
-fn show_row(rt: &HostRuntime, words: &[Word]) -> io::Result<()> {
-    for word in words {
-        print!(rt; " {}", Shown(*word))?;
-    }
-    Ok(())
 }
 
 /// What the rounds run on. Each stage begins from 4.
@@ -78,26 +70,23 @@ impl Yard {
         })
     }
 
-    fn poll(&self, rt: &HostRuntime, words: &[Word]) -> anyhow::Result<()> {
-        print!(rt; "poll")?;
-        show_row(rt, words)?;
-        println!(rt; ": {}", Shown(self.polled(words)?))?;
+    fn poll(&self, rt: &HostRuntime, words: [Word; 4]) -> anyhow::Result<()> {
+        let y = Shown(self.polled(&words)?);
+        println!(rt; "poll{}: {y}", Listed(&words.map(Shown)))?;
         Ok(())
     }
 
     /// What a confirm round gives. It is sure where a lead that says 1 does not sway it.
-    fn confirm(&self, rt: &HostRuntime, words: &[Word]) -> anyhow::Result<()> {
-        print!(rt; "confirm, x 4,")?;
-        show_row(rt, words)?;
-        let stage = self.confirmed(words)?;
-        let z = stage.speak();
+    fn confirm(&self, rt: &HostRuntime, words: [Word; 4]) -> anyhow::Result<()> {
+        let stage = self.confirmed(&words)?;
+        let z = Shown(stage.speak());
         let one = Some(Plan(1));
         let surety = if self.ended(stage, one)? == one {
             "unsure"
         } else {
             "sure"
         };
-        println!(rt; ": {}, {surety}", Shown(z))?;
+        println!(rt; "confirm, x 4,{}: {z}, {surety}", Listed(&words.map(Shown)))?;
         Ok(())
     }
 
@@ -122,7 +111,7 @@ pub fn rounds(rt: &HostRuntime) -> anyhow::Result<()> {
         slot_rounds(&yard.table)
     )?;
     for words in [[SEVEN, SEVEN, SEVEN, NINE], [SEVEN, SEVEN, NINE, NINE]] {
-        yard.poll(rt, &words)?;
+        yard.poll(rt, words)?;
     }
     for words in [
         [SEVEN, SEVEN, None, None],
@@ -130,7 +119,7 @@ pub fn rounds(rt: &HostRuntime) -> anyhow::Result<()> {
         [SEVEN, SEVEN, SEVEN, None],
         [SEVEN, SEVEN, NINE, NINE],
     ] {
-        yard.confirm(rt, &words)?;
+        yard.confirm(rt, words)?;
     }
     for word in [None, TEN, NINE] {
         yard.lead(rt, word)?;

@@ -1,4 +1,5 @@
-//! The second implementations: they keep every value taken, and look through all of them whenever they are asked.
+//! The second implementations: they keep every value taken, and look through all of them whenever they are asked. The two have only
+//! the calls `take` and `agrees` in common, for which a trait would be longer.
 use depot::{Board, Grant, PlanBook};
 use duty::{DutyRefusal, Outcome};
 use std::alloc::{AllocError, Global};

@@ -35,10 +35,8 @@ struct Others {
 
 impl fmt::Display for Others {
     fn fmt<W: fmt::Write>(&self, f: &mut fmt::Formatter<W>) -> fmt::Result {
-        for i in 0..self.size {
-            if !belongs(i, self.group) {
-                write!(f, " {i}")?;
-            }
+        for i in (0..self.size).filter(|i| !belongs(*i, self.group)) {
+            write!(f, " {i}")?;
         }
         Ok(())
     }

@@ -9,14 +9,13 @@ mod naive;
 mod plain_rounds;
 mod slots;
 mod timing;
+mod tries;
 
 use std::env;
 
 fn run(rt: &HostRuntime) -> anyhow::Result<()> {
-    for word in env::args(rt)?.skip(1) {
-        if word.as_str() == "time" {
-            return timing::measure(rt);
-        }
+    if env::args(rt)?.skip(1).any(|word| word.as_str() == "time") {
+        return timing::measure(rt);
     }
     drafts::compare(rt)?;
     slots::compare(rt)

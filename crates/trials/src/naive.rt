@@ -1,56 +1,35 @@
 //! Survivor sets written down a second time, with a flag for each controller and no thought for speed.
 
 use std::alloc::{AllocError, Global};
+use std::array;
+use survivor::DraftRefusal;
 
 /// A flag for each of 16 controllers.
 pub type Flags = [bool; 16];
 
 pub fn flags(group: u16) -> Flags {
-    let mut flags = [false; 16];
-    let mut rest = group;
-    for flag in flags.iter_mut() {
-        *flag = rest % 2 == 1;
-        rest /= 2;
-    }
-    flags
-}
-
-fn count(group: &Flags) -> usize {
-    let mut count = 0usize;
-    for flag in group {
-        if *flag {
-            count = count.saturating_add(1);
-        }
-    }
-    count
+    array::from_fn(|i| (group >> i) % 2 == 1)
 }
 
 /// Whether every controller of `part` belongs to `group`.
 pub fn contains(group: &Flags, part: &Flags) -> bool {
-    for (whole, one) in group.iter().zip(part) {
-        if *one && !*whole {
-            return false;
-        }
-    }
-    true
+    group.iter().zip(part).all(|(whole, one)| *whole || !*one)
 }
 
 fn meet(a: &Flags, b: &Flags) -> bool {
-    for (x, y) in a.iter().zip(b) {
-        if *x && *y {
-            return true;
-        }
-    }
-    false
+    a.iter().zip(b).any(|(x, y)| *x && *y)
 }
 
 pub fn share(a: &Flags, b: &Flags, c: &Flags) -> bool {
-    for ((x, y), z) in a.iter().zip(b).zip(c) {
-        if *x && *y && *z {
-            return true;
-        }
-    }
-    false
+    a.iter().zip(b).zip(c).any(|((x, y), z)| *x && *y && *z)
+}
+
+/// Why sets cannot be sealed.
+#[derive(Clone, Copy, PartialEq, Eq)]
+pub enum Unsealed {
+    NoSet,
+    /// Some three of them share no controller.
+    NoneShared,
 }
 
 #[derive(Drop)]
@@ -58,9 +37,6 @@ pub struct Naive {
     n: u32,
     sets: Vec<Flags>,
 }
-
-/// What a call of the second implementation answers: a number, 0 for none, and a place.
-pub type Answer = (u8, usize);
 
 impl Naive {
     pub fn new(heap: Global, n: u32) -> Naive {
@@ -71,71 +47,63 @@ impl Naive {
     }
 
     fn outside(&self, set: &Flags) -> bool {
-        let mut i = 0u32;
-        for flag in set {
-            if *flag && i >= self.n {
-                return true;
-            }
-            i = i.saturating_add(1);
-        }
-        false
+        set.iter().skip(self.n as usize).any(|flag| *flag)
     }
 
-    pub fn add(&mut self, group: u16) -> Result<Answer, AllocError> {
-        let set = flags(group);
-        if count(&set) == 0 || self.outside(&set) {
-            return Ok((2, 0));
+    /// What is answered to a set that is to be added.
+    fn answer(&self, set: &Flags) -> Result<(), DraftRefusal> {
+        if !set.contains(&true) || self.outside(set) {
+            return Err(DraftRefusal::EmptyOrOutside);
         }
         if self.sets.len() >= 64 {
-            return Ok((11, 0));
+            return Err(DraftRefusal::Full);
         }
-        let mut place = 1usize;
-        for old in self.sets.iter() {
-            if contains(old, &set) || contains(&set, old) {
-                return Ok((12, place));
-            }
-            place = place.saturating_add(1);
+        match self
+            .sets
+            .iter()
+            .position(|old| contains(old, set) || contains(set, old))
+        {
+            Some(before) => Err(DraftRefusal::Comparable(before + 1)),
+            None => Ok(()),
         }
-        self.sets.push(set)?;
-        Ok((0, 0))
     }
 
-    /// The number with which sealing is refused, or 0.
-    pub fn refusal(&self) -> u8 {
-        if self.sets.is_empty() {
-            return 13;
+    pub fn add(&mut self, group: u16) -> Result<Result<(), DraftRefusal>, AllocError> {
+        let set = flags(group);
+        let answer = self.answer(&set);
+        if answer.is_ok() {
+            self.sets.push(set)?;
         }
-        for a in self.sets.iter() {
-            for b in self.sets.iter() {
-                for c in self.sets.iter() {
-                    if !share(a, b, c) {
-                        return 14;
-                    }
-                }
-            }
+        Ok(answer)
+    }
+
+    /// The leads of the sets, where they can be sealed.
+    pub fn seal(&self) -> Result<Flags, Unsealed> {
+        let sets = self.sets.as_slice();
+        if sets.is_empty() {
+            return Err(Unsealed::NoSet);
         }
-        0
+        if sets.iter().all(|a| sets.iter().all(|b| sets.iter().all(|c| share(a, b, c)))) {
+            Ok(self.leads())
+        } else {
+            Err(Unsealed::NoneShared)
+        }
     }
 
     /// The sets at three places, from 1, have no controller in common.
     pub fn none_shared(&self, p: usize, q: usize, r: usize) -> bool {
         match (self.at(p), self.at(q), self.at(r)) {
-            (Some(a), Some(b), Some(c)) => !share(&a, &b, &c),
+            (Some(a), Some(b), Some(c)) => !share(a, b, c),
             _ => false,
         }
     }
 
-    fn at(&self, place: usize) -> Option<Flags> {
-        self.sets.get(place.checked_sub(1)?).copied()
+    fn at(&self, place: usize) -> Option<&Flags> {
+        self.sets.get(place.checked_sub(1)?)
     }
 
     fn meets_all(&self, group: &Flags) -> bool {
-        for set in self.sets.iter() {
-            if !meet(set, group) {
-                return false;
-            }
-        }
-        true
+        self.sets.iter().all(|set| meet(set, group))
     }
 
     pub fn enough(&self, group: u16) -> bool {
@@ -143,66 +111,48 @@ impl Naive {
     }
 
     pub fn enough_flags(&self, group: &Flags) -> bool {
-        for set in self.sets.iter() {
-            if contains(group, set) {
-                return true;
-            }
-        }
-        false
+        self.sets.iter().any(|set| contains(group, set))
     }
 
     /// The first group, by size and then by number, that meets every set.
     pub fn leads(&self) -> Flags {
-        for size in 0..17 {
-            for number in 0..=u16::MAX {
-                let group = flags(number);
-                if count(&group) == size && self.meets_all(&group) {
-                    return group;
-                }
-            }
-        }
-        [false; 16]
+        (0..17)
+            .find_map(|size| {
+                (0..=u16::MAX)
+                    .filter(|number| number.count_ones() == size)
+                    .map(flags)
+                    .find(|group| self.meets_all(group))
+            })
+            .unwrap_or([false; 16])
     }
 
     /// Whether a group is a core: it meets every set, and no longer so without any one of its controllers.
     fn is_core(&self, number: u16) -> bool {
-        let group = flags(number);
-        if !self.meets_all(&group) {
-            return false;
-        }
-        for i in 0u32..16 {
-            if (number >> i) % 2 == 1 && self.meets_all(&flags(number ^ (1 << i))) {
-                return false;
-            }
-        }
-        true
+        self.meets_all(&flags(number))
+            && (0u32..16).all(|i| {
+                (number >> i) % 2 == 0 || !self.meets_all(&flags(number ^ (1 << i)))
+            })
     }
 
     /// Whether each split of the controllers into three groups has one that contains a core.
     pub fn splits_keep_a_core(&self, heap: Global) -> Result<bool, AllocError> {
-        let mut cores = Vec::new(heap);
         let groups = 1u16 << self.n.min(10);
-        for number in 0..groups {
-            if self.is_core(number) {
-                cores.push(flags(number))?;
-            }
-        }
-        for x in 0..groups {
-            for y in 0..groups {
-                if x & y == 0 && !holds_core(&cores, x, y, (groups - 1) & !(x | y)) {
-                    return Ok(false);
-                }
-            }
-        }
-        Ok(true)
+        let cores: Vec<Flags> = (0..groups)
+            .filter(|number| self.is_core(*number))
+            .map(flags)
+            .collect(heap)?;
+        let split_keeps = |x: u16, y: u16| holds_core(
+            cores.as_slice(),
+            [x, y, (groups - 1) & !(x | y)],
+        );
+        Ok((0..groups).all(|x| (0..groups).all(|y| x & y != 0 || split_keeps(x, y))))
     }
 }
 
-fn holds_core(cores: &Vec<Flags>, x: u16, y: u16, z: u16) -> bool {
-    for core in cores.iter() {
-        if contains(&flags(x), core) || contains(&flags(y), core) || contains(&flags(z), core) {
-            return true;
-        }
-    }
-    false
+/// Whether one of the groups contains a core.
+fn holds_core(cores: &[Flags], groups: [u16; 3]) -> bool {
+    groups
+        .map(flags)
+        .iter()
+        .any(|group| cores.iter().any(|core| contains(group, core)))
 }

@@ -1,24 +1,35 @@
 //! The rounds of a slot written down a second time, with a flag for each controller and no thought for speed.
 
 use crate::naive::{Flags, Naive};
+use depot::Plan;
+use duty::{DutyRefusal, Outcome};
+use engine::{Heard, RowRefusal};
 
-/// A word: a plan's number, or nothing.
-pub type Word = Option<u32>;
+/// A word: a plan, or nothing.
+pub type Word = Option<Plan>;
 
-/// What a controller answers to a row.
+/// What a row that was heard led to: the round that is due, or the value of the slot and what the book made of it.
 #[derive(Clone, Copy, PartialEq, Eq)]
 pub enum Answer {
-    Refused,
     Round(u8),
-    Closed(u32),
+    Closed(Plan, Outcome),
 }
 
-/// The kinds of rounds.
+impl From<Heard<Plan>> for Answer {
+    fn from(heard: Heard<Plan>) -> Answer {
+        match heard {
+            Heard::Round(round) => Answer::Round(round),
+            Heard::Closed(plan, outcome) => Answer::Closed(plan, outcome),
+        }
+    }
+}
+
+/// The kind of round that is due, with what the round before it gave.
 #[derive(Clone, Copy)]
-enum Kind {
+enum Due {
     Poll,
-    Confirm,
-    Lead,
+    Confirm { y: Word },
+    Lead { sure: bool },
 }
 
 /// A controller with its book of plans.
@@ -28,174 +39,151 @@ pub struct Plain {
     size: usize,
     leads: Flags,
     highest: u32,
-    book: u32,
-    pending: u32,
-    kind: Kind,
+    in_force: Plan,
+    pending: Plan,
     // how many phases of the slot are over
     over: u8,
-    x: u32,
-    y: Word,
-    sure: bool,
+    x: Plan,
+    due: Due,
 }
 
-/// The controllers that say the value.
-fn sayers(words: &[Word], value: u32) -> Flags {
+/// The controllers whose word is as wanted.
+fn group<F: Fn(Word) -> bool>(words: &[Word], wanted: F) -> Flags
+    requires { F.IsAlwaysCallable wanted }
+{
     let mut group = [false; 16];
     for (flag, word) in group.iter_mut().zip(words) {
-        *flag = *word == Some(value);
-    }
-    group
-}
-
-/// The controllers that say anything else, or nothing.
-fn others(words: &[Word], value: u32) -> Flags {
-    let mut group = [false; 16];
-    for (flag, word) in group.iter_mut().zip(words) {
-        *flag = *word != Some(value);
+        *flag = wanted(*word);
     }
     group
 }
 
 impl Plain {
     /// A controller of a yard that is sealed, with plans up to the highest; nothing where the first does not fit.
-    pub fn open(yard: Naive, size: usize, highest: u32, first: u32) -> Option<Plain> {
-        if first < 1 || first > highest {
-            return None;
-        }
+    pub fn open(yard: Naive, size: usize, highest: u32, first: Plan) -> Option<Plain> {
         let leads = yard.leads();
-        Some(Plain {
+        let plain = Plain {
             yard,
             size,
             leads,
             highest,
-            book: 0,
+            in_force: Plan(0),
             pending: first,
-            kind: Kind::Poll,
             over: 0,
             x: first,
-            y: None,
-            sure: false,
-        })
+            due: Due::Poll,
+        };
+        plain.fits(first).then_some(plain)
     }
 
-    fn fits(&self, value: u32) -> bool {
-        value >= 1 && value <= self.highest
+    fn fits(&self, plan: Plan) -> bool {
+        (1..=self.highest).contains(&plan.0)
     }
 
-    /// The plan in force.
-    pub fn book(&self) -> u32 {
-        self.book
+    pub fn in_force(&self) -> Plan {
+        self.in_force
     }
 
-    /// Whether the offer was taken.
-    pub fn offer(&mut self, value: u32) -> bool {
-        if self.fits(value) {
-            self.pending = value;
-            return true;
+    pub fn offer(&mut self, plan: Plan) -> Result<(), DutyRefusal> {
+        if !self.fits(plan) {
+            return Err(DutyRefusal::Unfit);
         }
-        false
+        self.pending = plan;
+        Ok(())
     }
 
     pub fn speak(&self) -> Word {
-        match self.kind {
-            Kind::Confirm => self.y,
+        match self.due {
+            Due::Confirm { y } => y,
             _ => Some(self.x),
         }
     }
 
-    /// The first value that enough controllers say.
-    fn polled(&self, words: &[Word]) -> Word {
-        for word in words {
-            if let Some(value) = *word {
-                if self.fits(value) && self.yard.enough_flags(&sayers(words, value)) {
-                    return Some(value);
-                }
-            }
-        }
-        None
+    /// Whether enough controllers say the value.
+    fn enough_say(&self, words: &[Word], value: Plan) -> bool {
+        self.yard
+            .enough_flags(&group(words, |word| word == Some(value)))
     }
 
-    /// The first value without whose controllers the others are not enough.
-    fn weighty(&self, words: &[Word]) -> Word {
-        for word in words {
-            if let Some(value) = *word {
-                if self.fits(value) && !self.yard.enough_flags(&others(words, value)) {
-                    return Some(value);
-                }
-            }
-        }
-        None
+    /// Whether those who say anything else, or nothing, are not enough.
+    fn has_weight(&self, words: &[Word], value: Plan) -> bool {
+        !self
+            .yard
+            .enough_flags(&group(words, |word| word != Some(value)))
+    }
+
+    /// The first value of a row that fits and is as wanted.
+    fn first<F: Fn(Plan) -> bool>(&self, words: &[Word], wanted: F) -> Word
+        requires { F.IsAlwaysCallable wanted }
+    {
+        words
+            .iter()
+            .copied()
+            .flatten()
+            .find(|value| self.fits(*value) && wanted(*value))
     }
 
     /// What the lead of the phase says, where it fits.
     fn led(&self, words: &[Word]) -> Word {
-        let mut before = 0u8;
-        for (leads, word) in self.leads.iter().zip(words) {
-            if *leads && before == self.over {
-                return match *word {
-                    Some(value) if self.fits(value) => Some(value),
-                    _ => None,
-                };
-            }
-            if *leads {
-                before = before.saturating_add(1);
-            }
-        }
-        None
+        let (_, word) = self
+            .leads
+            .iter()
+            .zip(words)
+            .filter(|(leads, _)| **leads)
+            .nth(usize::from(self.over))?;
+        word.filter(|value| self.fits(*value))
     }
 
     /// How many phases a slot has.
-    fn phases(&self) -> u8 {
-        let mut count = 0u8;
-        for leads in &self.leads {
-            if *leads {
-                count = count.saturating_add(1);
-            }
-        }
-        count
+    fn phases(&self) -> usize {
+        self.leads.iter().filter(|leads| **leads).count()
     }
 
-    /// Ends a phase, and with the last one the slot.
-    fn end_phase(&mut self) -> Answer {
-        self.kind = Kind::Poll;
-        self.over = self.over.saturating_add(1);
-        if self.over < self.phases() {
-            return Answer::Round(self.over.saturating_mul(3).saturating_add(1));
-        }
+    /// The round that is due, from 1.
+    fn round(&self) -> u8 {
+        let kind = match self.due {
+            Due::Poll => 1,
+            Due::Confirm { .. } => 2,
+            Due::Lead { .. } => 3,
+        };
+        self.over.saturating_mul(3).saturating_add(kind)
+    }
+
+    /// Closes the slot, and begins the next.
+    fn close(&mut self) -> Answer {
         let value = self.x;
-        self.book = value;
+        self.in_force = value;
         self.over = 0;
         self.x = self.pending;
-        Answer::Closed(value)
+        Answer::Closed(value, Outcome::Taken)
     }
 
-    pub fn hear(&mut self, words: &[Word]) -> Answer {
+    pub fn hear(&mut self, words: &[Word]) -> Result<Answer, RowRefusal> {
         if words.len() != self.size {
-            return Answer::Refused;
+            return Err(RowRefusal::WrongLength);
         }
-        let first = self.over.saturating_mul(3).saturating_add(1);
-        match self.kind {
-            Kind::Poll => {
-                self.y = self.polled(words);
-                self.kind = Kind::Confirm;
-                Answer::Round(first.saturating_add(1))
+        match self.due {
+            Due::Poll => {
+                let y = self.first(words, |value| self.enough_say(words, value));
+                self.due = Due::Confirm { y };
             }
-            Kind::Confirm => {
-                if let Some(value) = self.weighty(words) {
-                    self.x = value;
-                }
-                self.sure = self.yard.enough_flags(&sayers(words, self.x));
-                self.kind = Kind::Lead;
-                Answer::Round(first.saturating_add(2))
+            Due::Confirm { .. } => {
+                let weighty = self.first(words, |value| self.has_weight(words, value));
+                self.x = weighty.unwrap_or(self.x);
+                let sure = self.enough_say(words, self.x);
+                self.due = Due::Lead { sure };
             }
-            Kind::Lead => {
-                if !self.sure {
-                    if let Some(value) = self.led(words) {
-                        self.x = value;
-                    }
+            Due::Lead { sure } => {
+                if !sure {
+                    self.x = self.led(words).unwrap_or(self.x);
                 }
-                self.end_phase()
+                self.due = Due::Poll;
+                self.over = self.over.saturating_add(1);
+                if usize::from(self.over) >= self.phases() {
+                    return Ok(self.close());
+                }
             }
         }
+        Ok(Answer::Round(self.round()))
     }
 }

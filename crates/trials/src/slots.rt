@@ -1,18 +1,17 @@
 //! Whole slots on random rows over random sealed tables, heard by both implementations.
 
-use crate::dice::Dice;
 use crate::naive::Naive;
 use crate::plain_rounds::{Answer, Plain, Word};
-use anyhow::anyhow;
+use crate::tries::{Trials, more};
 use depot::{Plan, PlanBook};
-use duty::{Duty, Outcome};
-use engine::{Controller, Heard, RowRefusal};
-use std::alloc::{AllocError, Global};
+use duty::Duty;
+use engine::{Controller, RowRefusal};
+use std::alloc::AllocError;
 use survivor::{Draft, Table};
 
-/// What was tried, and how often the two did not answer alike.
-#[derive(Drop)]
-struct Score {
+/// What was tried.
+#[derive(Default, Drop)]
+struct Counts {
     yards: u32,
     // of them, with more than one lead
     several: u32,
@@ -20,25 +19,18 @@ struct Score {
     slots: u32,
     offers: u32,
     refused: u32,
-    differ: u32,
 }
 
-impl Score {
-    fn expect(&mut self, alike: bool) {
-        if !alike {
-            self.differ = self.differ.saturating_add(1);
-        }
-    }
-
+impl Counts {
     /// Counts what a row was answered.
-    fn count(&mut self, answer: Answer) {
+    fn count(&mut self, answer: Result<Answer, RowRefusal>) {
         match answer {
-            Answer::Refused => self.refused = self.refused.saturating_add(1),
-            Answer::Round(_) => self.rows = self.rows.saturating_add(1),
-            Answer::Closed(_) => {
-                self.rows = self.rows.saturating_add(1);
-                self.slots = self.slots.saturating_add(1);
+            Ok(Answer::Round(_)) => more(&mut self.rows),
+            Ok(Answer::Closed(_, _)) => {
+                more(&mut self.rows);
+                more(&mut self.slots);
             }
+            Err(RowRefusal::WrongLength) => more(&mut self.refused),
         }
     }
 }
@@ -50,196 +42,120 @@ struct Pair {
     plain: Plain,
 }
 
-/// The number of a plan, or nothing.
-pub fn number(word: Option<Plan>) -> Word {
-    match word {
-        Some(Plan(number)) => Some(number),
-        None => None,
+impl Trials<Counts> {
+    /// A plan up to two past the highest, and so at times one that does not fit.
+    fn any_plan(&mut self, highest: u32) -> Plan {
+        Plan(self.dice.below(highest.saturating_add(3)))
     }
-}
 
-/// A row of words as plans.
-pub fn plans(heap: Global, words: &[Word]) -> Result<Vec<Option<Plan>>, AllocError> {
-    let mut row = Vec::new(heap);
-    for word in words {
-        let plan = match *word {
-            Some(number) => Some(Plan(number)),
-            None => None,
-        };
-        row.push(plan)?;
-    }
-    Ok(row)
-}
-
-/// What the controller answered. A book takes every plan that fits, so a plan set aside is none that the other answers.
-fn answered(heard: Result<Heard<Plan>, RowRefusal>) -> Answer {
-    match heard {
-        Ok(Heard::Round(round)) => Answer::Round(round),
-        Ok(Heard::Closed(Plan(value), Outcome::Taken)) => Answer::Closed(value),
-        Ok(Heard::Closed(_, Outcome::Aside(_))) => Answer::Closed(0),
-        Err(_) => Answer::Refused,
-    }
-}
-
-/// A plan's number up to two past the highest, and so at times one that does not fit.
-fn any_plan(dice: &mut Dice, highest: u32) -> u32 {
-    let mut plan = 0u32;
-    for _ in 0..dice.below(u64::from(highest).saturating_add(3)) {
-        plan = plan.saturating_add(1);
-    }
-    plan
-}
-
-/// A row in which many say the same, now and then of a wrong length.
-fn random_row(
-    heap: Global,
-    dice: &mut Dice,
-    size: u64,
-    highest: u32,
-) -> Result<Vec<Word>, AllocError> {
-    let mut words = Vec::new(heap);
-    let common = any_plan(dice, highest);
-    let share = dice.below(9);
-    let length = if dice.below(50) == 0 {
-        dice.below(20)
-    } else {
-        size
-    };
-    for _ in 0..length {
-        let word = if dice.below(8) < share {
-            Some(common)
-        } else if dice.below(4) == 0 {
-            None
+    /// A row in which many say the same, now and then of a wrong length.
+    fn random_row(&mut self, size: u32, highest: u32) -> Result<Vec<Word>, AllocError> {
+        let mut words = Vec::new(self.heap);
+        let common = self.any_plan(highest);
+        let share = self.dice.below(9);
+        let length = if self.dice.below(50) == 0 {
+            self.dice.below(20)
         } else {
-            Some(any_plan(dice, highest))
+            size
         };
-        words.push(word)?;
-    }
-    Ok(words)
-}
-
-/// Both hear a hundred rows, slot after slot, with offers in between.
-fn run(
-    heap: Global,
-    score: &mut Score,
-    dice: &mut Dice,
-    pair: &mut Pair,
-    size: u64,
-) -> anyhow::Result<()> {
-    let Plan(highest) = pair.ours.duty().highest();
-    for _ in 0..100 {
-        score.expect(number(pair.ours.speak()) == pair.plain.speak());
-        let words = random_row(heap, dice, size, highest)?;
-        let row = plans(heap, words.as_slice())?;
-        let ours = answered(pair.ours.hear(row.as_slice()));
-        score.count(ours);
-        score.expect(ours == pair.plain.hear(words.as_slice()));
-        let Plan(in_force) = pair.ours.duty().in_force();
-        score.expect(in_force == pair.plain.book());
-        if dice.below(4) == 0 {
-            let plan = any_plan(dice, highest);
-            let taken = pair.ours.offer(Plan(plan)).is_ok();
-            score.offers = score.offers.saturating_add(1);
-            score.expect(taken == pair.plain.offer(plan));
+        for _ in 0..length {
+            let word = if self.dice.below(8) < share {
+                Some(common)
+            } else if self.dice.below(4) == 0 {
+                None
+            } else {
+                Some(self.any_plan(highest))
+            };
+            words.push(word)?;
         }
+        Ok(words)
     }
-    Ok(())
-}
 
-/// Opens both on the same sets; nothing where one of them, or both, cannot be opened.
-fn open(
-    score: &mut Score,
-    table: Table,
-    naive: Naive,
-    size: usize,
-    highest: u32,
-    first: u32,
-) -> Option<Pair> {
-    let Ok(book) = PlanBook::new(highest) else {
-        return None;
-    };
-    let plain = Plain::open(naive, size, highest, first);
-    let Ok(ours) = Controller::open(table, book, Plan(first)) else {
-        score.expect(plain.is_none());
-        return None;
-    };
-    let Some(plain) = plain else {
-        score.expect(false);
-        return None;
-    };
-    Some(Pair { ours, plain })
-}
-
-/// One yard of `n` with up to `most` sets, where they can be sealed.
-fn trial(
-    heap: Global,
-    score: &mut Score,
-    dice: &mut Dice,
-    n: u32,
-    most: u64,
-) -> anyhow::Result<()> {
-    let Ok(mut draft) = Draft::new(n) else {
-        return Err(anyhow!("a yard of 1 to 16"));
-    };
-    let mut naive = Naive::new(heap, n);
-    let share = dice.below(4).saturating_add(5);
-    let wide = dice.below(2) == 0;
-    for _ in 0..dice.below(most).saturating_add(1) {
-        let set = if wide {
-            dice.most(n)
-        } else {
-            dice.group(n, share)
-        };
-        let _ = draft.add(set);
-        naive.add(set)?;
-    }
-    let mut table = Table::new();
-    if draft.seal(&mut table).is_err() {
-        return Ok(());
-    }
-    let highest = any_plan(dice, 6);
-    let first = any_plan(dice, highest);
-    if let Some(mut pair) = open(score, table, naive, n as usize, highest, first) {
-        score.yards = score.yards.saturating_add(1);
-        if table.leads().len() > 1 {
-            score.several = score.several.saturating_add(1);
+    /// Both hear a hundred rows, slot after slot, with offers in between.
+    fn run(&mut self, pair: &mut Pair, size: u32) -> Result<(), AllocError> {
+        let Pair { ours, plain } = pair;
+        let Plan(highest) = ours.duty().highest();
+        for _ in 0..100 {
+            self.expect(plain.speak() == ours.speak());
+            let row = self.random_row(size, highest)?;
+            let answer = ours.hear(row.as_slice()).map(Answer::from);
+            self.counts.count(answer);
+            self.expect(plain.hear(row.as_slice()) == answer);
+            self.expect(plain.in_force() == ours.duty().in_force());
+            if self.dice.below(4) == 0 {
+                let plan = self.any_plan(highest);
+                more(&mut self.counts.offers);
+                self.expect(plain.offer(plan) == ours.offer(plan));
+            }
         }
-        run(heap, score, dice, &mut pair, u64::from(n))?;
+        Ok(())
     }
-    Ok(())
+
+    /// Opens both on the same sets; nothing where one of them, or both, cannot be opened.
+    fn open(
+        &mut self,
+        table: Table,
+        naive: Naive,
+        size: usize,
+        highest: u32,
+        first: Plan,
+    ) -> Option<Pair> {
+        let book = PlanBook::new(highest).ok()?;
+        let plain = Plain::open(naive, size, highest, first);
+        let ours = Controller::open(table, book, first).ok();
+        self.expect(plain.is_some() == ours.is_some());
+        Some(Pair {
+            ours: ours?,
+            plain: plain?,
+        })
+    }
+
+    /// One yard of `n` with up to `most` sets, where they can be sealed.
+    fn trial(&mut self, n: u32, most: u32) -> anyhow::Result<()> {
+        let mut draft = Draft::new(n)?;
+        let mut naive = Naive::new(self.heap, n);
+        let share = self.dice.below(4).saturating_add(5);
+        let wide = self.dice.below(2) == 0;
+        for _ in 0..self.dice.below(most).saturating_add(1) {
+            let set = if wide {
+                self.dice.most(n)
+            } else {
+                self.dice.group(n, share)
+            };
+            let _ = draft.add(set);
+            let _ = naive.add(set)?;
+        }
+        let mut table = Table::new();
+        if draft.seal(&mut table).is_err() {
+            return Ok(());
+        }
+        let Plan(highest) = self.any_plan(6);
+        let first = self.any_plan(highest);
+        if let Some(mut pair) = self.open(table, naive, n as usize, highest, first) {
+            more(&mut self.counts.yards);
+            if table.leads().len() > 1 {
+                more(&mut self.counts.several);
+            }
+            self.run(&mut pair, n)?;
+        }
+        Ok(())
+    }
 }
 
 pub fn compare(rt: &HostRuntime) -> anyhow::Result<()> {
-    let heap = rt.alloc();
-    let mut dice = Dice::new(7_102_026);
-    let mut score = Score {
-        yards: 0,
-        several: 0,
-        rows: 0,
-        slots: 0,
-        offers: 0,
-        refused: 0,
-        differ: 0,
-    };
+    let mut trials: Trials<Counts> = Trials::new(rt.alloc(), 7_102_026);
     for _ in 0..60 {
         for n in 1..17 {
-            trial(heap, &mut score, &mut dice, n, 8)?;
-            trial(heap, &mut score, &mut dice, n, 60)?;
+            trials.trial(n, 8)?;
+            trials.trial(n, 60)?;
         }
     }
-    let Score {
-        yards,
-        several,
-        rows,
-        slots,
-        offers,
-        refused,
-        differ,
-    } = score;
+    let Trials { counts, differ, .. } = &trials;
     println!(rt;
-        "yards {yards}, with several leads {several}: rows heard {rows}, refused {refused}"
+        "yards {}, with several leads {}: rows heard {}, refused {}",
+        counts.yards, counts.several, counts.rows, counts.refused
     )?;
-    println!(rt; "slots closed {slots}; offers {offers}")?;
+    println!(rt; "slots closed {}; offers {}", counts.slots, counts.offers)?;
     println!(rt; "words, answers and books that differ: {differ}")?;
     Ok(())
 }

@@ -3,36 +3,27 @@
 use crate::escapes::unfold;
 use crate::script::Entry;
 use answers::Answer;
-use anyhow::anyhow;
-use std::io;
+use anyhow::{Context, ensure};
 use text::Yard;
 
 /// What an answer says after the number of its line.
 fn after_number(answer: &str) -> &str {
-    match answer.split_once('\t') {
-        Some((_, rest)) => rest,
-        None => answer,
-    }
+    answer.split_once('\t').map_or(answer, |(_, rest)| rest)
 }
 
 /// An answer without its line feed.
 fn shown(answer: &Answer) -> &str {
-    match std::str::from_utf8(answer.as_bytes()) {
-        Ok(line) => line.trim_end_matches('\n'),
-        Err(_) => "",
-    }
+    std::str::from_utf8(answer.as_bytes()).map_or("", |line| line.trim_end_matches('\n'))
 }
 
-/// Which yard answered otherwise than expected, and what.
+/// An answer other than the expected, with a note for the yard that gave it.
 #[derive(Drop)]
-enum Difference {
-    /// The one that is given every line.
-    Whole(Answer),
-    /// The one that is not given the refused lines, and so counts fewer.
-    WithoutRefused(Answer),
+struct Difference {
+    answer: Answer,
+    note: &'static str,
 }
 
-/// The yards of a case: one is given every line, the other all but the refused ones.
+/// The yards of a case: one is given every line, the other all but the refused ones, and so it counts fewer.
 #[derive(Drop)]
 struct Yards {
     whole: Yard,
@@ -51,17 +42,17 @@ impl Yards {
     fn answer(&mut self, line: &[u8], expected: &str) -> Option<Difference> {
         let answer = self.whole.answer(line);
         if shown(&answer) != expected {
-            return Some(Difference::Whole(answer));
+            return Some(Difference { answer, note: "" });
         }
         let expected = after_number(expected);
         if expected.starts_with("refused\t") {
             return None;
         }
         let answer = self.without_refused.answer(line);
-        if after_number(shown(&answer)) != expected {
-            return Some(Difference::WithoutRefused(answer));
-        }
-        None
+        (after_number(shown(&answer)) != expected).then_some(Difference {
+            answer,
+            note: " (without the refused lines before it)",
+        })
     }
 }
 
@@ -87,27 +78,31 @@ impl<'a> Case<'a> {
 
     /// Takes a line of the text, which is answered when the expected answer is read.
     fn ask(&mut self, line: &'a str) -> anyhow::Result<()> {
-        if self.asked.is_some() {
-            return Err(anyhow!("the line of the text before it has no answer"));
-        }
+        ensure!(
+            self.asked.is_none(),
+            "the line of the text before it has no answer"
+        );
         self.asked = Some(line);
         Ok(())
     }
 
     /// Has the yards answer the line that was read, and prints a difference. After a difference nothing more is run.
     fn hold(&mut self, rt: &HostRuntime, yards: &mut Yards, expected: &str) -> anyhow::Result<()> {
-        let Some(line) = self.asked.take() else {
-            return Err(anyhow!("an answer with no line of the text before it"));
-        };
+        let line = self
+            .asked
+            .take()
+            .context("an answer with no line of the text before it")?;
         self.lines = self.lines.saturating_add(1);
         if self.differs {
             return Ok(());
         }
         let bytes = unfold(rt.alloc(), line)?;
-        if let Some(difference) = yards.answer(bytes.as_slice(), expected) {
+        if let Some(Difference { answer, note }) = yards.answer(bytes.as_slice(), expected) {
             self.differs = true;
             println!(rt; "NOT  {}", self.title)?;
-            show(rt, line, expected, &difference)?;
+            println!(rt; "     line      {line}{note}")?;
+            println!(rt; "     expected  {expected}")?;
+            println!(rt; "     answered  {}", shown(&answer))?;
         }
         Ok(())
     }
@@ -116,18 +111,6 @@ impl<'a> Case<'a> {
     fn is_whole(&self) -> bool {
         self.asked.is_none() && self.lines > 0
     }
-}
-
-/// Prints how the answer to a line differs.
-fn show(rt: &HostRuntime, line: &str, expected: &str, difference: &Difference) -> io::Result<()> {
-    let (answer, which) = match difference {
-        Difference::Whole(answer) => (answer, ""),
-        Difference::WithoutRefused(answer) => (answer, " (without the refused lines before it)"),
-    };
-    let answered = shown(answer);
-    println!(rt;
-        "     line      {line}{which}\n     expected  {expected}\n     answered  {answered}"
-    )
 }
 
 /// A script that is being run.
@@ -155,27 +138,32 @@ impl<'a> Run<'a> {
     /// Reads the next line of the script.
     pub fn read(&mut self, rt: &HostRuntime, line: &'a str) -> anyhow::Result<()> {
         match Entry::read(line) {
-            Entry::Blank | Entry::Remark => Ok(()),
+            Entry::Blank | Entry::Remark => {}
             Entry::Heading(heading) => {
                 self.end_case(rt)?;
                 println!(rt; "{heading}")?;
-                Ok(())
             }
             Entry::Case(title) => {
                 self.end_case(rt)?;
                 self.yards = Yards::new();
                 self.case = Some(Case::new(title));
-                Ok(())
             }
-            Entry::Expected(answer) => match &mut self.case {
-                Some(case) => case.hold(rt, &mut self.yards, answer),
-                None => Err(anyhow!("an answer before the first case")),
-            },
-            Entry::Text(text) => match &mut self.case {
-                Some(case) => case.ask(text),
-                None => Err(anyhow!("a line of the text before the first case")),
-            },
+            Entry::Expected(answer) => {
+                let case = self
+                    .case
+                    .as_mut()
+                    .context("an answer before the first case")?;
+                case.hold(rt, &mut self.yards, answer)?;
+            }
+            Entry::Text(text) => {
+                let case = self
+                    .case
+                    .as_mut()
+                    .context("a line of the text before the first case")?;
+                case.ask(text)?;
+            }
         }
+        Ok(())
     }
 
     /// Ends the case that is being run, if there is one, and prints `ok` where nothing differed.
@@ -183,9 +171,10 @@ impl<'a> Run<'a> {
         let Some(case) = self.case.take() else {
             return Ok(());
         };
-        if !case.is_whole() {
-            return Err(anyhow!("the case before it has no line, or a line without an answer"));
-        }
+        ensure!(
+            case.is_whole(),
+            "the case before it has no line, or a line without an answer"
+        );
         self.cases = self.cases.saturating_add(1);
         self.lines = self.lines.saturating_add(case.lines);
         if case.differs {

@@ -2,164 +2,78 @@
 //!
 //! `\t`, `\r` and `\\` stand for a tab, a carriage return and a backslash, `\x` and two digits for the byte with this number in
 //! base 16, and `\e` for nothing, as in an empty line. `\*126{..}` stands for what is in the braces, 126 times.
+ghost use Rattle.std.specs.Prelude.{◌<◌, length, IfOk, IfSome};
 
-use anyhow::anyhow;
+use anyhow::{Context, bail};
 use std::alloc::Global;
-
-/// Where in an escape a line has been read to.
-#[derive(Clone, Copy)]
-enum Place {
-    /// In none.
-    Outside,
-    /// After the backslash.
-    Begun,
-    /// Before the first digit of a byte.
-    High,
-    /// After the first digit of a byte.
-    Low(u8),
-    /// In the number of a repetition, which is this so far.
-    Times(u32),
-}
-
-/// What stands in the braces of a repetition, and how often it is wanted.
-#[derive(Drop)]
-struct Repeated {
-    times: u32,
-    bytes: Vec<u8>,
-}
-
-/// A line with escapes, as far as it has been read.
-#[derive(Drop)]
-struct Unfolding {
-    heap: Global,
-    place: Place,
-    repeated: Option<Repeated>,
-    bytes: Vec<u8>,
-}
 
 /// The number of a digit in base 16.
 fn hex_digit(byte: u8) -> anyhow::Result<u8> {
     match byte {
         b'0'..=b'9' => Ok(byte - b'0'),
         b'a'..=b'f' => Ok(byte - b'a' + 10),
-        _ => Err(anyhow!("no digit in base 16 after \\x")),
+        _ => bail!("no digit in base 16 after \\x"),
     }
 }
 
-impl Unfolding {
-    fn new(heap: Global) -> Unfolding {
-        Unfolding {
-            heap,
-            place: Place::Outside,
-            repeated: None,
-            bytes: Vec::new(heap),
-        }
-    }
+/// The bytes before the first of this one, and those after it.
+fn split_once(bytes: &[u8], at: u8) -> Option<(&[u8], &[u8])>
+    ensures { IfSome result (λ halves. length halves.1.now < length bytes.now) }
+{
+    let place = bytes.iter().position(|byte| *byte == at)?;
+    Some((&bytes[..place], &bytes[place + 1..]))
+}
 
-    /// Adds a byte of the line.
-    fn put(&mut self, byte: u8) -> anyhow::Result<()> {
-        self.place = Place::Outside;
-        if let Some(repeated) = &mut self.repeated {
-            repeated.bytes.push(byte)?;
-        } else {
-            self.bytes.push(byte)?;
-        }
-        Ok(())
-    }
+/// Adds what a text with no repetition begins with, and gives the rest of the text.
+fn read_one<'t>(bytes: &mut Vec<u8>, text: &'t [u8]) -> anyhow::Result<&'t [u8]>
+    ensures { IfOk result (λ rest. length rest.now < length text.now) }
+{
+    let (byte, rest) = match text {
+        [b'\\', b'e', rest @ ..] => return Ok(rest),
+        [b'\\', b't', rest @ ..] => (b'\t', rest),
+        [b'\\', b'r', rest @ ..] => (b'\r', rest),
+        [b'\\', b'\\', rest @ ..] => (b'\\', rest),
+        [b'\\', b'x', high, low, rest @ ..] => (hex_digit(*high)? << 4 | hex_digit(*low)?, rest),
+        [b'\\'] | [b'\\', b'x', ..] => bail!("an escape without its end"),
+        [b'\\', b'*', ..] => bail!("a repetition within another"),
+        [b'\\', ..] => bail!("an unknown escape"),
+        [byte, rest @ ..] => (*byte, rest),
+        [] => bail!("an empty text"),
+    };
+    bytes.push(byte)?;
+    Ok(rest)
+}
 
-    /// Reads a byte that stands in no escape.
-    fn read_outside(&mut self, byte: u8) -> anyhow::Result<()> {
-        match byte {
-            b'\\' => {
-                self.place = Place::Begun;
-                Ok(())
-            }
-            b'}' => self.close(),
-            _ => self.put(byte),
-        }
+/// Adds a repetition, of which the text stands after `\*`, and gives the rest of the text.
+fn read_repetition<'t>(bytes: &mut Vec<u8>, text: &'t [u8]) -> anyhow::Result<&'t [u8]>
+    ensures { IfOk result (λ rest. length rest.now < length text.now) }
+{
+    let (times, text) = split_once(text, b'{').context(
+        "no brace after the number of a repetition",
+    )?;
+    let times = std::str::from_utf8(times)?
+        .parse::<u32>()
+        .context("no number of a repetition")?;
+    let (mut body, rest) = split_once(text, b'}').context("an escape without its end")?;
+    let mut repeated = Vec::new(*bytes.allocator());
+    while !body.is_empty() {
+        body = read_one(&mut repeated, body)?;
     }
-
-    /// Reads the byte after a backslash.
-    fn read_kind(&mut self, byte: u8) -> anyhow::Result<()> {
-        match byte {
-            b't' => return self.put(b'\t'),
-            b'r' => return self.put(b'\r'),
-            b'\\' => return self.put(b'\\'),
-            b'e' => self.place = Place::Outside,
-            b'x' => self.place = Place::High,
-            b'*' => self.place = Place::Times(0),
-            _ => return Err(anyhow!("an unknown escape")),
-        }
-        Ok(())
+    for _ in 0..times {
+        bytes.extend_from_slice(repeated.as_slice())?;
     }
-
-    /// Reads a byte of the number of a repetition, or the brace after it.
-    fn read_times(&mut self, times: u32, byte: u8) -> anyhow::Result<()> {
-        match byte {
-            b'0'..=b'9' => {
-                let more = times
-                    .saturating_mul(10)
-                    .saturating_add(u32::from(byte - b'0'));
-                self.place = Place::Times(more);
-                Ok(())
-            }
-            b'{' => self.open(times),
-            _ => Err(anyhow!("no brace after the number of a repetition")),
-        }
-    }
-
-    /// Begins what stands in braces.
-    fn open(&mut self, times: u32) -> anyhow::Result<()> {
-        if self.repeated.is_some() {
-            return Err(anyhow!("a repetition within another"));
-        }
-        self.place = Place::Outside;
-        self.repeated = Some(Repeated {
-            times,
-            bytes: Vec::new(self.heap),
-        });
-        Ok(())
-    }
-
-    /// Ends what stands in braces.
-    fn close(&mut self) -> anyhow::Result<()> {
-        let Some(repeated) = self.repeated.take() else {
-            return self.put(b'}');
-        };
-        for _ in 0..repeated.times {
-            self.bytes.extend_from_slice(repeated.bytes.as_slice())?;
-        }
-        Ok(())
-    }
-
-    /// Reads the next byte.
-    fn read(&mut self, byte: u8) -> anyhow::Result<()> {
-        match self.place {
-            Place::Outside => self.read_outside(byte),
-            Place::Begun => self.read_kind(byte),
-            Place::High => {
-                self.place = Place::Low(hex_digit(byte)?);
-                Ok(())
-            }
-            Place::Low(high) => self.put(high.wrapping_mul(16) | hex_digit(byte)?),
-            Place::Times(times) => self.read_times(times, byte),
-        }
-    }
-
-    /// The bytes of the line, which has been read whole.
-    fn end(self) -> anyhow::Result<Vec<u8>> {
-        match (self.place, &self.repeated) {
-            (Place::Outside, None) => Ok(self.bytes),
-            _ => Err(anyhow!("an escape without its end")),
-        }
-    }
+    Ok(rest)
 }
 
 /// The bytes of a line that is written with escapes.
 pub fn unfold(heap: Global, line: &str) -> anyhow::Result<Vec<u8>> {
-    let mut unfolding = Unfolding::new(heap);
-    for byte in line.as_bytes() {
-        unfolding.read(*byte)?;
+    let mut bytes = Vec::new(heap);
+    let mut text = line.as_bytes();
+    while !text.is_empty() {
+        text = match text {
+            [b'\\', b'*', repetition @ ..] => read_repetition(&mut bytes, repetition)?,
+            _ => read_one(&mut bytes, text)?,
+        };
     }
-    unfolding.end()
+    Ok(bytes)
 }

@@ -15,13 +15,10 @@ use std::io;
 /// Runs each line of a script.
 fn run_script<'a>(rt: &HostRuntime, script: &'a str) -> anyhow::Result<()> {
     let mut cases: Run<'a> = Run::new();
-    for (before, line) in script.lines().enumerate() {
-        let read = cases.read(rt, line);
-        if read.is_err() {
-            let number = before.saturating_add(1);
+    for (number, line) in (1..).zip(script.lines()) {
+        cases.read(rt, line).inspect_err(|_| {
             let _ = eprintln!(rt; "yard_cases: line {number} of the script is at fault");
-            return read;
-        }
+        })?;
     }
     cases.end(rt)
 }
