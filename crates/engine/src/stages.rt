@@ -11,7 +11,6 @@ ghost use Rattle.engine.specs.Words.{word_code};
 ghost use Rattle.engine.specs.Rows.{meaning_of, heard_row, after_row, Whole};
 ghost use Rattle.engine.specs.Stages.{poll_stage, confirm_stage, lead_stage, next_stage, held, closed_value};
 
-use crate::hearings::Test;
 use crate::phases::Phase;
 use crate::rows::Row;
 use duty::{Duty, Same};
@@ -84,7 +83,7 @@ impl<V: Same + Drop> Poll<V> {
         Confirm {
             phase: self.phase,
             x: self.x,
-            y: row.first(Test::Enough),
+            y: row.first_enough(),
         }
     }
 
@@ -123,7 +122,7 @@ impl<V: Same + Drop> Confirm<V> {
         ensures same { first (weighty (meaning_of S.Structure row.now) (heard_row D.Duty V.Same row.now)) (heard_row D.Duty V.Same row.now) ≡ None → result.z ≡ self.x }
         ensures confirms { Whole S.Structure row.now → Confirms (meaning_of S.Structure row.now) (heard_row D.Duty V.Same row.now) (V.Same.code self.x) (V.Same.code result.z) result.sure }
     {
-        let z = row.first(Test::Weighty).unwrap_or(self.x);
+        let z = row.first_weighty().unwrap_or(self.x);
         Lead {
             phase: self.phase,
             z,

@@ -16,7 +16,7 @@ returns g c =
     let x = K.code c.args.self.x in
     let words = row.words.now in
     let size : length heard ≡ length words = length_heard (fits_in g.D.Duty row.duty.now) (codes K words) ∙ length_codes K words in
-    let z : K.code c.unwrap_or-z.result ≡ confirmed m x heard = ap K.code c.unwrap_or-z.ensures ∙ code_or K c.first.result c.args.self.x ∙ ap (λ y. or_else y x) c.first.ensures in
+    let z : K.code c.unwrap_or-z.result ≡ confirmed m x heard = ap K.code c.unwrap_or-z.ensures ∙ code_or K c.first_weighty.result c.args.self.x ∙ ap (λ y. or_else y x) c.first_weighty.ensures in
     let sure : c.has_enough.result ≡ has_enough m heard (confirmed m x heard) = c.has_enough.ensures ∙ ap (has_enough m heard) z in
     record {
       stage = search rules;

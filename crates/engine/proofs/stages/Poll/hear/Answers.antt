@@ -12,4 +12,4 @@ by_law m lawful row y e = rw e (laws.polls m lawful row)
 pub returns : goal.returns
 returns g c =
     let lawful = g.met.S.Structure.lawful c.args.row.now.structure.now in
-    record { stage = search rules; same = search rules; polls = by_law _ lawful _ _ c.first.ensures }
+    record { stage = search rules; same = search rules; polls = by_law _ lawful _ _ c.first_enough.ensures }
