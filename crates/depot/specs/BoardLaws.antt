@@ -1,7 +1,7 @@
 -- What holds of a board whatever grants it is given, in whatever order.
-use Rattle.std.specs.Prelude.{◌≡◌, ℕ, ◌≤◌, cond, List, [], ◌∷◌, reverse, length, Ok, Err, sum, Result, ◌==◌, slice_index}
+use Rattle.std.specs.Prelude.{◌≡◌, ℕ, ◌≤◌, cond, List, [], ◌∷◌, reverse, length, sum, Result, ◌==◌, slice_index}
 use Rattle.duty.specs.Codes.{Code}
-use Rattle.duty.specs.Calls.{Always}
+use Rattle.depot.specs.Making as making
 use Rattle.depot.specs.declared.boards.Board.{Board}
 use Rattle.depot.specs.declared.refusals.SettingsRefusal.{SettingsRefusal}
 use Rattle.depot.specs.Boards.{Settings, bay_of, amps_in, fitting, step}
@@ -25,5 +25,4 @@ pub record Kept (s : Settings) (taken : List Code) (amps : List ℕ) : Type 0 wh
 
 -- a new board keeps this for ever
 abbrev pub Lasting : Result Board SettingsRefusal → Type 0
-Lasting (Ok b) = Always settings_of content_of fitting step b (Kept (settings_of b))
-Lasting (Err e) = Unit {0}
+Lasting = making.Lasting settings_of content_of fitting step Kept
