@@ -1,5 +1,5 @@
 -- What holds of a board whatever grants it is given, in whatever order.
-use Rattle.std.specs.Prelude.{◌≡◌, ℕ, ◌≤◌, cond, List, [], ◌∷◌, reverse, length, sum, Result, ◌==◌, slice_index}
+use Rattle.std.specs.Prelude.{◌≡◌, ℕ, ◌≤◌, if◌then◌else◌, List, [], ◌∷◌, reverse, length, sum, Result, ◌==◌, slice_index}
 use Rattle.duty.specs.Codes.{Code}
 use Rattle.depot.specs.Making as making
 use Rattle.depot.specs.declared.boards.Board.{Board}
@@ -10,7 +10,7 @@ use Rattle.depot.specs.BoardCalls.{settings_of, content_of}
 -- the amps of the first of the grants that is for this bay, or 0 where none is
 abbrev pub first_for : ℕ → List Code → ℕ
 first_for bay [] = 0
-first_for bay (grant ∷ grants) = cond (bay_of grant == bay) (amps_in grant) (first_for bay grants)
+first_for bay (grant ∷ grants) = if bay_of grant == bay then amps_in grant else first_for bay grants
 
 -- the amps of the last of the grants that is for this bay, or 0 where none is
 abbrev pub last_for : ℕ → List Code → ℕ
