@@ -1,47 +1,58 @@
-use anyhow::anyhow;
+//! Drafts: sets that are added to them, and tables that they are sealed into.
+
+use std::{fmt, io};
 use structure::{Group, Structure};
 use survivor::{Draft, DraftRefusal, Table};
 
-/// Why a call was refused, as its number and its values.
-fn show_refusal(rt: &HostRuntime, refusal: DraftRefusal) -> anyhow::Result<()> {
-    let number = refusal.number();
-    match refusal {
-        DraftRefusal::Comparable(place) => println!(rt; "refused {number}, place {place}")?,
-        DraftRefusal::NoneShared(p, q, r) => println!(rt; "refused {number}, places {p} {q} {r}")?,
-        _ => println!(rt; "refused {number}")?,
-    }
-    Ok(())
-}
+/// Why a call was refused, as its number and its places.
+#[derive(Drop)]
+struct Refused(DraftRefusal);
 
-fn seal(rt: &HostRuntime, n: u32, sets: &[Group]) -> anyhow::Result<()> {
-    print!(rt; "seal n {n}, sets")?;
-    for set in sets {
-        print!(rt; " {set}")?;
-    }
-    print!(rt; ": ")?;
-    let mut draft = match Draft::new(n) {
-        Ok(draft) => draft,
-        Err(refusal) => return show_refusal(rt, refusal),
-    };
-    for set in sets {
-        if let Err(refusal) = draft.add(*set) {
-            return show_refusal(rt, refusal);
+impl fmt::Display for Refused {
+    fn fmt<W: fmt::Write>(&self, f: &mut fmt::Formatter<W>) -> fmt::Result {
+        write!(f, "refused {}", self.0.number())?;
+        match self.0 {
+            DraftRefusal::Comparable(place) => write!(f, ", place {place}"),
+            DraftRefusal::NoneShared(p, q, r) => write!(f, ", places {p} {q} {r}"),
+            _ => Ok(()),
         }
     }
+}
+
+/// A list as it is printed, with a space before each of its items.
+#[derive(Drop)]
+struct Listed<'a, T>(&'a [T]);
+
+impl<T: fmt::Display> fmt::Display for Listed<'_, T> {
+    fn fmt<W: fmt::Write>(&self, f: &mut fmt::Formatter<W>) -> fmt::Result {
+        for item in self.0 {
+            write!(f, " {item}")?;
+        }
+        Ok(())
+    }
+}
+
+/// The sealed table of a yard of `n` with these sets.
+pub fn sealed(n: u32, sets: &[Group]) -> Result<Table, DraftRefusal> {
+    let mut draft = Draft::new(n)?;
+    for set in sets {
+        draft.add(*set)?;
+    }
     let mut table = Table::new();
-    if let Err(refusal) = draft.seal(&mut table) {
-        return show_refusal(rt, refusal);
+    draft.seal(&mut table)?;
+    Ok(table)
+}
+
+fn seal(rt: &HostRuntime, n: u32, sets: &[Group]) -> io::Result<()> {
+    print!(rt; "seal n {n}, sets{}: ", Listed(sets))?;
+    match sealed(n, sets) {
+        Ok(table) => println!(rt; "leads{}", Listed(table.leads())),
+        Err(refusal) => println!(rt; "{}", Refused(refusal)),
     }
-    print!(rt; "leads")?;
-    for lead in table.leads() {
-        print!(rt; " {lead}")?;
-    }
-    println!(rt; "")?;
-    Ok(())
 }
 
 /// Drafts that are sealed, and some that are not.
-pub fn sealing(rt: &HostRuntime) -> anyhow::Result<()> {
+pub fn sealing(rt: &HostRuntime) -> io::Result<()> {
     seal(rt, 4, &[7, 11, 13, 14])?;
     seal(rt, 1, &[1])?;
     seal(rt, 6, &[56, 55, 47, 31])?;
@@ -55,14 +66,7 @@ pub fn sealing(rt: &HostRuntime) -> anyhow::Result<()> {
 
 /// Groups of the yard of six that are enough, and some that are not: three of one cabinet weigh as one.
 pub fn enough(rt: &HostRuntime) -> anyhow::Result<()> {
-    let Ok(mut draft) = Draft::new(6) else {
-        return Err(anyhow!("a yard of six"));
-    };
-    for set in [56, 55, 47, 31] {
-        let _ = draft.add(set);
-    }
-    let mut table = Table::new();
-    let _ = draft.seal(&mut table);
+    let table = sealed(6, &[56, 55, 47, 31])?;
     for group in [
         0b111000, 0b000111, 0b011111, 0b001111, 0b1_111000, 0b1_000111,
     ] {
@@ -72,23 +76,16 @@ pub fn enough(rt: &HostRuntime) -> anyhow::Result<()> {
     Ok(())
 }
 
-fn add(rt: &HostRuntime, draft: &mut Draft, set: Group) -> anyhow::Result<()> {
-    print!(rt; "add {set}: ")?;
+fn add(rt: &HostRuntime, draft: &mut Draft, set: Group) -> io::Result<()> {
     match draft.add(set) {
-        Ok(()) => {
-            let count = draft.sets().len();
-            println!(rt; "place {count}")?;
-            Ok(())
-        }
-        Err(refusal) => show_refusal(rt, refusal),
+        Ok(()) => println!(rt; "add {set}: place {}", draft.sets().len()),
+        Err(refusal) => println!(rt; "add {set}: {}", Refused(refusal)),
     }
 }
 
 /// Sets that a draft takes, and sets that it does not.
 pub fn adding(rt: &HostRuntime) -> anyhow::Result<()> {
-    let Ok(mut four) = Draft::new(4) else {
-        return Err(anyhow!("a yard of four"));
-    };
+    let mut four = Draft::new(4)?;
     println!(rt; "n 4: an empty set, bit 4, a subset, a superset, an equal set")?;
     for set in [0, 16, 0b0110, 0b1011, 0b0010, 0b1110, 0b1011] {
         add(rt, &mut four, set)?;
@@ -96,16 +93,13 @@ pub fn adding(rt: &HostRuntime) -> anyhow::Result<()> {
     println!(rt;
         "n 16: 64 pairs, then a 65th set; emptiness comes before fullness, and fullness before order"
     )?;
-    let Ok(mut full) = Draft::new(16) else {
-        return Err(anyhow!("a yard of sixteen"));
-    };
+    let mut full = Draft::new(16)?;
     for i in 0u8..8 {
         for j in 8u8..16 {
-            let _ = full.add((1 << i) | (1 << j));
+            full.add((1 << i) | (1 << j))?;
         }
     }
-    let count = full.sets().len();
-    println!(rt; "it holds {count}")?;
+    println!(rt; "it holds {}", full.sets().len())?;
     for set in [0, 3, 0x0101] {
         add(rt, &mut full, set)?;
     }

@@ -8,21 +8,23 @@ mod thresholds;
 mod worked;
 
 fn run(rt: &HostRuntime) -> anyhow::Result<()> {
-    let cases = worked::worked_cases();
-    println!(rt; "{cases} worked cases follow from the definitions.")?;
-    println!(rt; "")?;
+    println!(rt;
+        "{} worked cases follow from the definitions.",
+        worked::worked_cases()
+    )?;
+    println!(rt)?;
     drafts::sealing(rt)?;
-    println!(rt; "")?;
+    println!(rt)?;
     drafts::adding(rt)?;
-    println!(rt; "")?;
+    println!(rt)?;
     drafts::enough(rt)?;
-    println!(rt; "")?;
+    println!(rt)?;
     thresholds::making(rt)?;
-    println!(rt; "")?;
+    println!(rt)?;
     thresholds::enough(rt)?;
-    println!(rt; "")?;
+    println!(rt)?;
     thresholds::greatest(rt)?;
-    println!(rt; "")?;
+    println!(rt)?;
     stages::rounds(rt)
 }
 

@@ -1,148 +1,142 @@
 //! The three rounds in the yard of four, of which any three are a set, with plans from 1 to 9.
 
-use anyhow::anyhow;
+use crate::drafts::sealed;
 use depot::{Plan, PlanBook};
-use engine::{Lead, Next, Poll, Row, slot_rounds};
-use std::fmt;
-use survivor::{Draft, Table};
+use engine::{Lead, Next, Poll, Row, RowRefusal, slot_rounds};
+use std::{fmt, io};
+use survivor::Table;
 
-/// What the rounds run on.
+/// A word: a plan, or nothing.
+type Word = Option<Plan>;
+
+const SEVEN: Word = Some(Plan(7));
+
+const NINE: Word = Some(Plan(9));
+
+const TEN: Word = Some(Plan(10));
+
+/// A word as it is printed.
+#[derive(Drop)]
+struct Shown(Word);
+
+impl fmt::Display for Shown {
+    fn fmt<W: fmt::Write>(&self, f: &mut fmt::Formatter<W>) -> fmt::Result {
+        match self.0 {
+            Some(plan) => write!(f, "{plan}"),
+            None => write!(f, "-"),
+        }
+    }
+}
+
+/// Prints the words of a row, with a space before each.
+fn show_row(rt: &HostRuntime, words: &[Word]) -> io::Result<()> {
+    for word in words {
+        print!(rt; " {}", Shown(*word))?;
+    }
+    Ok(())
+}
+
+/// What the rounds run on. Each stage begins from 4.
 #[derive(Drop)]
 struct Yard {
     table: Table,
     book: PlanBook,
 }
 
-/// A row of plan numbers, 0 for nothing.
-type Numbers = [u32; 4];
-
-fn words(numbers: &Numbers) -> [Option<Plan>; 4] {
-    let mut words = [None; 4];
-    for (word, number) in words.iter_mut().zip(numbers) {
-        if *number != 0 {
-            *word = Some(Plan(*number));
-        }
+impl Yard {
+    fn four() -> anyhow::Result<Yard> {
+        Ok(Yard {
+            table: sealed(4, &[7, 11, 13, 14])?,
+            book: PlanBook::new(9)?,
+        })
     }
-    words
-}
 
-/// A word as it is printed.
-#[derive(Drop)]
-struct Shown(Option<Plan>);
-
-impl fmt::Display for Shown {
-    fn fmt<W: fmt::Write>(&self, f: &mut fmt::Formatter<W>) -> fmt::Result {
-        match self.0 {
-            Some(Plan(number)) => write!(f, "{number}"),
-            None => write!(f, "-"),
-        }
+    fn row<'a>(&'a self, words: &'a [Word]) -> Result<Row<'a, 'a, Table, PlanBook>, RowRefusal> {
+        Row::check(&self.table, &self.book, words)
     }
-}
 
-fn show_row(rt: &HostRuntime, numbers: &Numbers) -> anyhow::Result<()> {
-    for word in words(numbers) {
-        let shown = Shown(word);
-        print!(rt; " {shown}")?;
+    /// What a poll gives.
+    fn polled(&self, words: &[Word]) -> Result<Word, RowRefusal> {
+        let row = self.row(words)?;
+        Ok(Poll::open(Plan(4)).hear(&row).speak())
     }
-    Ok(())
-}
 
-fn four() -> anyhow::Result<Yard> {
-    let Ok(mut draft) = Draft::new(4) else {
-        return Err(anyhow!("a yard of four"));
-    };
-    for set in [7, 11, 13, 14] {
-        let _ = draft.add(set);
+    /// The stage after a poll of nothing and a confirm round.
+    fn confirmed(&self, words: &[Word]) -> Result<Lead<Plan>, RowRefusal> {
+        let silence = self.row(&[None; 4])?;
+        let row = self.row(words)?;
+        Ok(Poll::open(Plan(4)).hear(&silence).hear(&row))
     }
-    let mut table = Table::new();
-    let _ = draft.seal(&mut table);
-    let Ok(book) = PlanBook::new(9) else {
-        return Err(anyhow!("plans to 9"));
-    };
-    Ok(Yard { table, book })
-}
 
-/// What a poll gives.
-fn poll(rt: &HostRuntime, yard: &Yard, numbers: &Numbers) -> anyhow::Result<()> {
-    print!(rt; "poll")?;
-    show_row(rt, numbers)?;
-    let words = words(numbers);
-    let Ok(row) = Row::check(&yard.table, &yard.book, &words) else {
-        return Err(anyhow!("a row of four"));
-    };
-    let y = Shown(Poll::open(Plan(4)).hear(&row).speak());
-    println!(rt; ": {y}")?;
-    Ok(())
-}
+    /// The value with which the phase ends, where the lead says this.
+    fn ended(&self, stage: Lead<Plan>, lead: Word) -> Result<Word, RowRefusal> {
+        let words = [lead, None, None, None];
+        let row = self.row(&words)?;
+        Ok(match stage.hear(&row) {
+            Next::Poll(poll) => poll.speak(),
+            Next::Closed(closed) => Some(closed.value()),
+        })
+    }
 
-/// The stage after a poll of nothing, from 4, and a confirm round.
-fn confirmed(yard: &Yard, numbers: &Numbers) -> anyhow::Result<Lead<Plan>> {
-    let nothing = [None; 4];
-    let words = words(numbers);
-    let (Ok(silence), Ok(row)) = (
-        Row::check(&yard.table, &yard.book, &nothing),
-        Row::check(&yard.table, &yard.book, &words),
-    ) else {
-        return Err(anyhow!("rows of four"));
-    };
-    Ok(Poll::open(Plan(4)).hear(&silence).hear(&row))
-}
+    fn poll(&self, rt: &HostRuntime, words: &[Word]) -> anyhow::Result<()> {
+        print!(rt; "poll")?;
+        show_row(rt, words)?;
+        println!(rt; ": {}", Shown(self.polled(words)?))?;
+        Ok(())
+    }
 
-/// The value with which the phase ends, where the lead says this.
-fn ended(yard: &Yard, stage: Lead<Plan>, lead: u32) -> anyhow::Result<Shown> {
-    let words = words(&[lead, 0, 0, 0]);
-    let Ok(row) = Row::check(&yard.table, &yard.book, &words) else {
-        return Err(anyhow!("a row of four"));
-    };
-    Ok(match stage.hear(&row) {
-        Next::Poll(poll) => Shown(poll.speak()),
-        Next::Closed(closed) => Shown(Some(closed.value())),
-    })
-}
+    /// What a confirm round gives. It is sure where a lead that says 1 does not sway it.
+    fn confirm(&self, rt: &HostRuntime, words: &[Word]) -> anyhow::Result<()> {
+        print!(rt; "confirm, x 4,")?;
+        show_row(rt, words)?;
+        let stage = self.confirmed(words)?;
+        let z = stage.speak();
+        let one = Some(Plan(1));
+        let surety = if self.ended(stage, one)? == one {
+            "unsure"
+        } else {
+            "sure"
+        };
+        println!(rt; ": {}, {surety}", Shown(z))?;
+        Ok(())
+    }
 
-/// What a confirm round gives from 4. It is sure where a lead that says 1 does not sway it.
-fn confirm(rt: &HostRuntime, yard: &Yard, numbers: &Numbers) -> anyhow::Result<()> {
-    print!(rt; "confirm, x 4,")?;
-    show_row(rt, numbers)?;
-    let stage = confirmed(yard, numbers)?;
-    let z = Shown(stage.speak());
-    let Shown(after) = ended(yard, stage, 1)?;
-    let surety = if after == Some(Plan(1)) {
-        "unsure"
-    } else {
-        "sure"
-    };
-    println!(rt; ": {z}, {surety}")?;
-    Ok(())
-}
-
-/// What a lead round gives to one that is unsure of 4.
-fn lead(rt: &HostRuntime, yard: &Yard, word: u32) -> anyhow::Result<()> {
-    let stage = confirmed(yard, &[7, 0, 0, 0])?;
-    let after = ended(yard, stage, word)?;
-    let said = Shown(words(&[word, 0, 0, 0]).first().copied().flatten());
-    println!(rt; "lead, unsure, z 4, the lead says {said}: {after}")?;
-    Ok(())
+    /// What a lead round gives to one that is unsure of 4.
+    fn lead(&self, rt: &HostRuntime, word: Word) -> anyhow::Result<()> {
+        let stage = self.confirmed(&[SEVEN, None, None, None])?;
+        let after = self.ended(stage, word)?;
+        println!(rt;
+            "lead, unsure, z 4, the lead says {}: {}",
+            Shown(word),
+            Shown(after)
+        )?;
+        Ok(())
+    }
 }
 
 /// The worked cases of the rounds, run.
 pub fn rounds(rt: &HostRuntime) -> anyhow::Result<()> {
-    let yard = four()?;
-    let rounds = slot_rounds(&yard.table);
-    println!(rt; "the yard of four has {rounds} rounds a slot")?;
-    for numbers in [[7, 7, 7, 9], [7, 7, 9, 9]] {
-        poll(rt, &yard, &numbers)?;
+    let yard = Yard::four()?;
+    println!(rt;
+        "the yard of four has {} rounds a slot",
+        slot_rounds(&yard.table)
+    )?;
+    for words in [[SEVEN, SEVEN, SEVEN, NINE], [SEVEN, SEVEN, NINE, NINE]] {
+        yard.poll(rt, &words)?;
     }
-    for numbers in [[7, 7, 0, 0], [7, 0, 0, 0], [7, 7, 7, 0], [7, 7, 9, 9]] {
-        confirm(rt, &yard, &numbers)?;
+    for words in [
+        [SEVEN, SEVEN, None, None],
+        [SEVEN, None, None, None],
+        [SEVEN, SEVEN, SEVEN, None],
+        [SEVEN, SEVEN, NINE, NINE],
+    ] {
+        yard.confirm(rt, &words)?;
     }
-    for word in [0, 10, 9] {
-        lead(rt, &yard, word)?;
+    for word in [None, TEN, NINE] {
+        yard.lead(rt, word)?;
     }
-    let short = [Some(Plan(7)); 3];
-    if let Err(refusal) = Row::check(&yard.table, &yard.book, &short) {
-        let number = refusal.number();
-        println!(rt; "a row of three: refused {number}")?;
+    if let Err(refusal) = yard.row(&[SEVEN; 3]) {
+        println!(rt; "a row of three: refused {}", refusal.number())?;
     }
     Ok(())
 }

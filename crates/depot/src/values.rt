@@ -1,7 +1,9 @@
 //! The two kinds of values: plan numbers and grants.
+ghost use Rattle.std.specs.Prelude.{◌∷◌, ◌++◌, decimal, Some};
 ghost use Rattle.depot.specs.Values.{plan_code, grant_code};
 
 use duty::Same;
+use std::fmt;
 
 /// The number of a plan. 0 stands for no plan.
 #[derive(Clone, Copy, PartialEq, Eq, Debug)]
@@ -18,7 +20,7 @@ impl Same for Plan {
     ghost code = { plan_code };
 
     fn same(&self, other: &Plan) -> bool {
-        self.0 == other.0
+        self == other
     }
 }
 
@@ -26,6 +28,23 @@ impl Same for Grant {
     ghost code = { grant_code };
 
     fn same(&self, other: &Grant) -> bool {
-        self.bay == other.bay && self.amps == other.amps
+        self == other
+    }
+}
+
+impl fmt::Display for Plan {
+    ghost output = { λ p. Some (decimal p.0) };
+
+    fn fmt<W: fmt::Write>(&self, f: &mut fmt::Formatter<W>) -> fmt::Result {
+        write!(f, "{}", self.0)
+    }
+}
+
+impl fmt::Display for Grant {
+    // 47 is a slash
+    ghost output = { λ g. Some (decimal g.bay ++ 47 ∷ decimal g.amps) };
+
+    fn fmt<W: fmt::Write>(&self, f: &mut fmt::Formatter<W>) -> fmt::Result {
+        write!(f, "{}/{}", self.bay, self.amps)
     }
 }

@@ -10,31 +10,27 @@ fn give(board: &mut Board, bay: u32, amps: u32) -> Result<Outcome, DutyRefusal> 
 
 /// Whether the bays have exactly these amps.
 fn has(board: &Board, amps: &[u32]) -> bool {
-    let bays = board.bays();
-    if bays.len() != amps.len() {
-        return false;
-    }
-    for (bay, expected) in bays.iter().zip(amps) {
-        if bay.amps != *expected {
-            return false;
-        }
-    }
-    true
-}
-
-/// Whether these settings make a board.
-fn makes(bays: u32, feed: u32) -> bool {
-    match Board::new(bays, feed) {
-        Ok(_) => true,
-        Err(SettingsRefusal::OutOfRange) => false,
-    }
+    board
+        .bays()
+        .iter()
+        .map(|bay| bay.amps)
+        .eq(amps.iter().copied())
 }
 
 #[test]
 fn settings_out_of_range_are_refused(rt: HostRuntime) {
-    assert!(rt; !makes(0, 100) && makes(1, 100));
-    assert!(rt; makes(64, 100) && !makes(65, 100));
-    assert!(rt; makes(4, 0) && makes(4, 32_000) && !makes(4, 32_001));
+    let cases = [
+        (0, 100, false),
+        (1, 100, true),
+        (64, 100, true),
+        (65, 100, false),
+        (4, 0, true),
+        (4, 32_000, true),
+        (4, 32_001, false),
+    ];
+    for (bays, feed, made) in cases {
+        assert_eq!(rt; Board::new(bays, feed).is_ok(), made);
+    }
     assert_eq!(rt; SettingsRefusal::OutOfRange.number(), 6);
 }
 
@@ -73,18 +69,9 @@ fn a_bay_may_be_given_what_it_has(rt: HostRuntime) -> Result<(), Fail> {
 #[test]
 fn a_grant_has_at_most_1000_amps(rt: HostRuntime) -> Result<(), Fail> {
     let mut board = Board::new(2, 32_000)?;
-    assert!(rt;
-        board.fits(&Grant {
-            bay: 0,
-            amps: 1_000,
-        },)
-    );
-    assert!(rt;
-        !board.fits(&Grant {
-            bay: 0,
-            amps: 1_001,
-        },)
-    );
+    for (amps, fits) in [(1_000, true), (1_001, false)] {
+        assert_eq!(rt; board.fits(&Grant { bay: 0, amps }), fits);
+    }
     assert_eq!(rt; give(&mut board, 0, 1_000), Ok(Outcome::Taken));
     assert_eq!(rt; give(&mut board, 1, 1_001), Err(DutyRefusal::Unfit));
     assert!(rt; has(&board, &[1_000, 0]));

@@ -1,19 +1,13 @@
-//! Cases of the plan book, and of sameness.
-use depot::{Grant, Plan, PlanBook, SettingsRefusal};
+//! Cases of the plan book, and of values.
+use depot::{Grant, Plan, PlanBook};
 use duty::{Duty, DutyRefusal, Outcome, Same};
 use std::test::Fail;
 
-/// Whether a book of plans up to this one is made.
-fn makes(highest: u32) -> bool {
-    match PlanBook::new(highest) {
-        Ok(_) => true,
-        Err(SettingsRefusal::OutOfRange) => false,
-    }
-}
-
 #[test]
 fn the_highest_plan_is_1_to_9999(rt: HostRuntime) {
-    assert!(rt; !makes(0) && makes(1) && makes(9_999) && !makes(10_000));
+    for (highest, made) in [(0, false), (1, true), (9_999, true), (10_000, false)] {
+        assert_eq!(rt; PlanBook::new(highest).is_ok(), made);
+    }
 }
 
 #[test]
@@ -38,6 +32,18 @@ fn values_are_the_same_when_their_numbers_are(rt: HostRuntime) {
     assert!(rt; grant.same(&Grant { bay: 1, amps: 2 }));
     assert!(rt; !grant.same(&Grant { bay: 2, amps: 1 }));
     assert!(rt; !grant.same(&Grant { bay: 1, amps: 3 }) && !grant.same(&Grant { bay: 0, amps: 2 }));
+}
+
+#[test]
+fn values_print_as_their_numbers(rt: HostRuntime) -> Result<(), Fail> {
+    let alloc = rt.alloc();
+    let grant = Grant {
+        bay: 7,
+        amps: 1_000,
+    };
+    assert_eq!(rt; Plan(9_999).to_string(alloc)?.as_str(), "9999");
+    assert_eq!(rt; grant.to_string(alloc)?.as_str(), "7/1000");
+    Ok(())
 }
 
 #[test]

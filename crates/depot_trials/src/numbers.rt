@@ -1,7 +1,7 @@
 //! Numbers that look random, the same in every run.
 ghost use Rattle.std.specs.Prelude.{◌<◌};
 
-/// A xorshift generator.
+/// A xorshift generator. `trials` has another: each crate's results are of its own sequence, and a crate for both would be longer.
 #[derive(Drop)]
 pub struct Numbers(u64);
 
@@ -15,13 +15,13 @@ impl Numbers {
         ensures { 0 < bound → result < bound }
     {
         let mut x = self.0;
-        x ^= x.wrapping_shl(13);
-        x ^= x.wrapping_shr(7);
-        x ^= x.wrapping_shl(17);
+        x ^= x << 13;
+        x ^= x >> 7;
+        x ^= x << 17;
         self.0 = x;
         if bound == 0 {
             return 0;
         }
-        (x % bound as u64) as u32
+        (x % u64::from(bound)) as u32
     }
 }

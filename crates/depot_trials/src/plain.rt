@@ -1,6 +1,10 @@
 //! The second implementations: they keep every value taken, and look through all of them whenever they are asked.
 use depot::{Board, Grant, PlanBook};
+use duty::{DutyRefusal, Outcome};
 use std::alloc::{AllocError, Global};
+
+/// What is answered to a value.
+pub type Answer = Result<Outcome, DutyRefusal>;
 
 #[derive(Drop)]
 pub struct PlainBoard {
@@ -20,43 +24,44 @@ impl PlainBoard {
 
     /// The amps of the last grant taken for the bay, or 0.
     fn amps(&self, bay: u32) -> u32 {
-        let mut amps = 0;
-        for grant in self.taken.iter() {
-            if grant.bay == bay {
-                amps = grant.amps;
-            }
-        }
-        amps
+        self.taken
+            .iter()
+            .rev()
+            .find(|grant| grant.bay == bay)
+            .map_or(0, |grant| grant.amps)
     }
 
-    /// 0 where the grant is taken, else the number of the outcome or the refusal.
-    pub fn take(&mut self, grant: Grant) -> Result<u8, AllocError> {
+    /// The amps of all bays with the grant.
+    fn total_with(&self, grant: Grant) -> u64 {
+        (0..self.bays)
+            .filter(|&bay| bay != grant.bay)
+            .fold(u64::from(grant.amps), |total, bay| {
+                total.saturating_add(u64::from(self.amps(bay)))
+            })
+    }
+
+    fn answer(&self, grant: Grant) -> Answer {
         if grant.bay >= self.bays || grant.amps > 1_000 {
-            return Ok(4);
+            Err(DutyRefusal::Unfit)
+        } else if self.total_with(grant) > u64::from(self.feed) {
+            Ok(Outcome::Aside(15))
+        } else {
+            Ok(Outcome::Taken)
         }
-        let mut sum = u64::from(grant.amps);
-        for bay in 0..self.bays {
-            if bay != grant.bay {
-                sum = sum.saturating_add(u64::from(self.amps(bay)));
-            }
+    }
+
+    pub fn take(&mut self, grant: Grant) -> Result<Answer, AllocError> {
+        let answer = self.answer(grant);
+        if answer == Ok(Outcome::Taken) {
+            self.taken.push(grant)?;
         }
-        if sum > u64::from(self.feed) {
-            return Ok(15);
-        }
-        self.taken.push(grant)?;
-        Ok(0)
+        Ok(answer)
     }
 
     /// Whether the board has the same bays.
     pub fn agrees(&self, board: &Board) -> bool {
-        let mut number = 0u32;
-        for bay in board.bays() {
-            if bay.amps != self.amps(number) {
-                return false;
-            }
-            number = number.saturating_add(1);
-        }
-        number == self.bays
+        let amps = (0..self.bays).map(|bay| self.amps(bay));
+        board.bays().iter().map(|bay| bay.amps).eq(amps)
     }
 }
 
@@ -74,13 +79,12 @@ impl PlainBook {
         }
     }
 
-    /// 0 where the plan is taken, else the number of the refusal.
-    pub fn take(&mut self, plan: u32) -> Result<u8, AllocError> {
+    pub fn take(&mut self, plan: u32) -> Result<Answer, AllocError> {
         if plan == 0 || plan > self.highest {
-            return Ok(4);
+            return Ok(Err(DutyRefusal::Unfit));
         }
         self.taken.push(plan)?;
-        Ok(0)
+        Ok(Ok(Outcome::Taken))
     }
 
     /// Whether the book has the same plan in force.

@@ -2,6 +2,9 @@
 ghost use Rattle.std.specs.Prelude.{◌≡◌};
 ghost use Rattle.duty.specs.Refusals.{number};
 
+use std::error::Error;
+use std::fmt;
+
 /// Why a duty refuses a value.
 #[derive(Clone, Copy, PartialEq, Eq, Debug)]
 pub enum DutyRefusal {
@@ -19,3 +22,13 @@ impl DutyRefusal {
         }
     }
 }
+
+impl fmt::Display for DutyRefusal {
+    fn fmt<W: fmt::Write>(&self, f: &mut fmt::Formatter<W>) -> fmt::Result {
+        f.write_str(match self {
+            DutyRefusal::Unfit => "the value does not fit",
+        })
+    }
+}
+
+impl Error for DutyRefusal {}

@@ -2,6 +2,9 @@
 ghost use Rattle.std.specs.Prelude.{◌≡◌};
 ghost use Rattle.engine.specs.Refusals.{number};
 
+use std::error::Error;
+use std::fmt;
+
 /// Why a row was refused.
 #[derive(Clone, Copy, PartialEq, Eq, Debug)]
 pub enum RowRefusal {
@@ -19,3 +22,13 @@ impl RowRefusal {
         }
     }
 }
+
+impl fmt::Display for RowRefusal {
+    fn fmt<W: fmt::Write>(&self, f: &mut fmt::Formatter<W>) -> fmt::Result {
+        f.write_str(match self {
+            RowRefusal::WrongLength => "the row has not one word for each controller",
+        })
+    }
+}
+
+impl Error for RowRefusal {}

@@ -20,6 +20,11 @@ abbrev pub left : Option (Bor (List ℕ)) → List (List ℕ)
 left None = []
 left (Some r) = fields r.now
 
+-- the first of some fields is given, and the others are left; without one nothing is given
+abbrev pub GivesFirst : List (List ℕ) → Option (Bor (List ℕ)) → List (List ℕ) → Type 0
+GivesFirst fs None rest = (fs ≡ []) × (rest ≡ [])
+GivesFirst fs (Some f) rest = fs ≡ f.now ∷ rest
+
 -- ---- in words
 -- no byte is the mark
 abbrev pub Lacks : ℕ → List ℕ → Type 0

@@ -1,10 +1,11 @@
 -- What a field can be read as.
-use Rattle.std.specs.Prelude.{◌≡◌, ℕ, ◌<◌, List, ◌∷◌, ◌++◌, length, codes, refl}
-use Rattle.std.proofs.Common.{sym, ap, ◌∙◌, arith, length-append}
+use Rattle.std.specs.Prelude.{◌≡◌, ℕ, ◌<◌, List, ◌∷◌, ◌++◌, length, Some, None, codes, Option, refl}
+use Rattle.std.proofs.Common.{sym, ap, subst, ◌∙◌, arith, length-append}
+use Rattle.std.specs.Borrow.{Bor}
 use Rattle.std.specs.Str.Parse.{AllDigits}
 use Rattle.std.proofs.lemmas.Fmt.{decimal_is_IsNumeral}
 use Rattle.std.proofs.lemmas.Str.Parse.{not_in_digits, numerals_by_value, tells_digits}
-use Rattle.fields.specs.Fields.{Lacks}
+use Rattle.fields.specs.Fields.{Lacks, Cut}
 use Rattle.fields.specs.Numbers.{numeral, Number}
 use Rattle.fields.specs.Reading.{SaysOne}
 use Rattle.fields.specs.Values.{PlanText, GrantText, grant_text}
@@ -18,14 +19,25 @@ pub numeral_lacks : (mark n : ℕ) → n < 100000 → mark < 48 → Lacks mark (
 numeral_lacks mark n h low = not_in_digits (numerals_by_value (AllDigits 10) tells_digits) (numeral n) mark (decimal_is_IsNumeral n (omega arith)).0.1 (λ i. omega arith)
 
 -- a grant's field is cut at its slash
-pub grant_parts : (field front rest : List ℕ) (g : Grant) → Lacks 47 front → field ≡ front ++ (47 ∷ rest) → GrantText field g → Number front g.bay × Number rest g.amps
+grant_parts : (field front rest : List ℕ) (g : Grant) → Lacks 47 front → field ≡ front ++ (47 ∷ rest) → GrantText field g → Number front g.bay × Number rest g.amps
 grant_parts field front rest g l e w =
     let same = same_cut 47 front (numeral g.bay) rest (numeral g.amps) l (numeral_lacks 47 g.bay w.0 (omega arith)) (sym e ∙ w.2) in
     ((w.0, same.0), (w.1, same.1))
 
--- and has one
-pub grant_slash : (field : List ℕ) (g : Grant) → Lacks 47 field → GrantText field g → ⊥
-grant_slash field g l w = not_lacks 47 field _ _ l w.2
+-- of what is cut, the front says the bay and the rest the amps, and there is a rest
+module _ (field front : List ℕ) (rest : Option (Bor (List ℕ))) (g : Grant) (c : Cut 47 field front rest) (w : GrantText field g) where
+  pub grant_slash : rest ≡ None → ⊥
+  grant_slash e = let k = subst (Cut 47 field front) e c in not_lacks 47 field _ _ (subst (Lacks 47) (sym k.1) k.0) w.2
+
+  pub grant_amps : (r : Bor (List ℕ)) → rest ≡ Some r → Number r.now g.amps
+  grant_amps r e = let k = subst (Cut 47 field front) e c in (grant_parts field front r.now g k.0 k.1 w).1
+
+  pub grant_bay : Number front g.bay
+  grant_bay = at rest refl
+    where
+      at : (r : Option (Bor (List ℕ))) → rest ≡ r → Number front g.bay
+      at None e = absurd (grant_slash e)
+      at (Some r) e = let k = subst (Cut 47 field front) e c in (grant_parts field front r.now g k.0 k.1 w).0
 
 -- a field says one plan at most
 pub one_plan : SaysOne PlanText

@@ -8,12 +8,10 @@ fn until(bytes: &[u8], mark: u8) -> usize
     ensures lacks { (k : ℕ) → k < result → slice_index bytes.now k ≢ mark }
     ensures stops { result < length bytes.now → slice_index bytes.now result ≡ mark }
 {
-    for (i, byte) in bytes.iter().enumerate() {
-        if *byte == mark {
-            return i;
-        }
-    }
-    bytes.len()
+    bytes
+        .iter()
+        .position(|byte| *byte == mark)
+        .unwrap_or(bytes.len())
 }
 
 /// What stands before the first mark, and what stands after it where there is one.

@@ -4,10 +4,12 @@
 
 mod cuts;
 mod faults;
+mod fields;
 mod numbers;
 mod values;
 
 pub use cuts::next_field;
 pub use faults::FieldFault;
+pub use fields::Fields;
 pub use numbers::number;
 pub use values::Value;

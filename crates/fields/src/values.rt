@@ -73,12 +73,11 @@ impl Value for Grant {
     ghost any = { (grant_text (record { bay = 0; amps = 0 }), record { bay = 0; amps = 0 }, zero_grant) };
 
     fn read(field: &[u8]) -> Option<Grant> {
-        match cut(field, b'/') {
-            (bay, Some(amps)) => Some(Grant {
-                bay: number(bay)?,
-                amps: number(amps)?,
-            }),
-            (_, None) => None,
-        }
+        let (bay, amps) = cut(field, b'/');
+        let amps = amps?;
+        Some(Grant {
+            bay: number(bay)?,
+            amps: number(amps)?,
+        })
     }
 }

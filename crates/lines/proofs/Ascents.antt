@@ -1,9 +1,8 @@
 -- Rising numbers, one after another, and the group of the controllers that they name.
-use Rattle.std.proofs.Common.{◌≡◌, ℕ, zero, suc, ◌+◌, ◌/◌, ◌^◌, ◌<◌, ◌≤◌, Bool, true, false, cond, ltb, ◌⊎◌, List, [], ◌∷◌, ◌++◌, length, Some, None, Option, sym, refl, ap, ◌∙◌, subst, inl, inr, ⊎_elim, append_assoc, append-nil, pow-suc, add-one, arith, length-append, pow_mono, Bor, ltb-false, ltb-true}
+use Rattle.std.proofs.Common.{◌≡◌, ℕ, zero, suc, ◌+◌, ◌/◌, ◌^◌, ◌<◌, ◌≤◌, Bool, true, false, cond, ltb, ◌⊎◌, List, [], ◌∷◌, ◌++◌, length, Some, None, Option, sym, refl, ap, ◌∙◌, subst, inl, inr, ⊎_elim, append_assoc, append-nil, pow-suc, add-one, arith, length-append, pow_mono, ltb-false, ltb-true}
 use lib.Bits.{bit_or, or_shifted_r}
 use Rattle.structure.specs.Groups.{◌∈◌}
 use Rattle.structure.proofs.Bits.{none_in, in_half, half_in, in_odd, odd_in}
-use Rattle.fields.specs.Fields.{left}
 use Rattle.fields.specs.Numbers.{Number}
 use Rattle.fields.specs.Numerals.{one_number}
 use Rattle.lines.specs.Forms.{Departs, field_number}
@@ -21,16 +20,16 @@ abbrev pub Below : ℕ → Option ℕ → Type 0
 Below low None = Unit {0}
 Below low (Some g) = g < 2 ^ low
 
-pub record Climbed (all : List (List ℕ)) (ns : List ℕ) (low : ℕ) (group : Option ℕ) (rest : Option (Bor (List ℕ))) : Type 0 where
+pub record Climbed (all : List (List ℕ)) (ns : List ℕ) (low : ℕ) (group : Option ℕ) (rest : List (List ℕ)) : Type 0 where
   pub done : List (List ℕ)
-  pub split : all ≡ done ++ left rest
+  pub split : all ≡ done ++ rest
   pub said : Rises 0 done ns
   pub next : low ≡ least 0 ns
   pub count : length ns ≡ length done
   pub below : Below low group
   pub grouped : Grouped ns group
 
-pub started : (rest : Option (Bor (List ℕ))) → Climbed (left rest) [] 0 (Some 0) rest
+pub started : (rest : List (List ℕ)) → Climbed rest [] 0 (Some 0) rest
 started rest = record { done = []; split = refl; said = tt; next = refl; count = refl; below = omega arith; grouped = (omega arith, λ i. (none_in i, λ l. absurd l)) }
 
 rise_push : (low : ℕ) (fs : List (List ℕ)) (ns : List ℕ) (f : List ℕ) (n : ℕ) → Rises low fs ns → Number f n → least low ns ≤ n → Rises low (fs ++ (f ∷ [])) (ns ++ (n ∷ []))
@@ -105,12 +104,12 @@ grouped_more ns low n (Some g) le b k = go (ltb n 16) refl
         )
     go false e = (tt, (n, ltb-false n 16 e, listed_push n n ns (inr refl)))
 
-pub one_more : (all : List (List ℕ)) (ns : List ℕ) (low : ℕ) (g : Option ℕ) (rest later : Option (Bor (List ℕ))) (f : List ℕ) (n : ℕ) → Climbed all ns low g rest → left rest ≡ f ∷ left later → NumberFrom low f n → Climbed all (ns ++ (n ∷ [])) (n + 1) (with_controller g n) later
+pub one_more : (all : List (List ℕ)) (ns : List ℕ) (low : ℕ) (g : Option ℕ) (rest later : List (List ℕ)) (f : List ℕ) (n : ℕ) → Climbed all ns low g rest → rest ≡ f ∷ later → NumberFrom low f n → Climbed all (ns ++ (n ∷ [])) (n + 1) (with_controller g n) later
 one_more all ns low g rest later f n s e num =
     let more = grouped_more ns low n g num.1 s.below s.grouped in
     record {
       done = s.done ++ (f ∷ []);
-      split = s.split ∙ ap (λ l. s.done ++ l) e ∙ sym (append_assoc s.done (f ∷ []) (left later));
+      split = s.split ∙ ap (λ l. s.done ++ l) e ∙ sym (append_assoc s.done (f ∷ []) later);
       said = rise_push 0 s.done ns f n s.said num.0 (omega (arith, s.next, num.1));
       next = omega (arith, least_push 0 ns n);
       count = length-append ns (n ∷ []) ∙ omega (arith, s.count, length-append s.done (f ∷ []));
@@ -118,8 +117,8 @@ one_more all ns low g rest later f n s e num =
       grouped = more.1;
     }
 
-pub all_said : (all : List (List ℕ)) (ns : List ℕ) (low : ℕ) (g : Option ℕ) (rest : Option (Bor (List ℕ))) → Climbed all ns low g rest → rest ≡ None → SetForm all g
-all_said all ns low g rest s e = (ns, subst (λ l. Rises 0 l ns) (sym (s.split ∙ ap (λ r. s.done ++ left r) e ∙ append-nil s.done)) s.said, s.grouped)
+pub all_said : (all : List (List ℕ)) (ns : List ℕ) (low : ℕ) (g : Option ℕ) (rest : List (List ℕ)) → Climbed all ns low g rest → rest ≡ [] → SetForm all g
+all_said all ns low g rest s e = (ns, subst (λ l. Rises 0 l ns) (sym (s.split ∙ ap (λ r. s.done ++ r) e ∙ append-nil s.done)) s.said, s.grouped)
 
 rise_at : (low : ℕ) (fs more : List (List ℕ)) (f : List ℕ) (ns ms : List ℕ) → Rises low fs ns → Rises low (fs ++ (f ∷ more)) ms → (n : ℕ) × Number f n × (least low ns ≤ n)
 rise_at low [] more f [] [] r s = absurd s
@@ -130,10 +129,10 @@ rise_at low (g ∷ fs) more f (n ∷ ns) [] r s = absurd s
 rise_at low (g ∷ fs) more f (n ∷ ns) (m ∷ ms) r s =
     rise_at (suc n) fs more f ns ms r.1 (subst (λ k. Rises (suc k) (fs ++ (f ∷ more)) ms) (one_number g m n s.0.0 r.0.0) s.1)
 
-pub no_number : (all : List (List ℕ)) (ns : List ℕ) (low : ℕ) (group : Option ℕ) (rest later : Option (Bor (List ℕ))) (f : List ℕ) (k : ℕ) → Climbed all ns low group rest → left rest ≡ f ∷ left later → ((n : ℕ) → NumberFrom low f n → ⊥) → k ≡ field_number (length ns) → FaultAt SetForm all k
+pub no_number : (all : List (List ℕ)) (ns : List ℕ) (low : ℕ) (group : Option ℕ) (rest later : List (List ℕ)) (f : List ℕ) (k : ℕ) → Climbed all ns low group rest → rest ≡ f ∷ later → ((n : ℕ) → NumberFrom low f n → ⊥) → k ≡ field_number (length ns) → FaultAt SetForm all k
 no_number all ns low group rest later f k s e wrong is =
     let L : List (List ℕ) → Type 0 = λ fs. (g : Option ℕ) × SetForm fs g in
-    let at = here (λ fs. L (s.done ++ fs)) (left rest) ([], (group, (ns, subst (λ l. Rises 0 l ns) (sym (append-nil s.done)) s.said, s.grouped)))
+    let at = here (λ fs. L (s.done ++ fs)) rest ([], (group, (ns, subst (λ l. Rises 0 l ns) (sym (append-nil s.done)) s.said, s.grouped)))
     (λ g gs more is l. let same : g ≡ f = cc in let n = rise_at 0 s.done more g ns l.1.0 s.said l.1.1 in wrong n.0 (subst (λ x. Number x n.0) same n.1, omega (arith, n.2, s.next)))
     (λ none l. let z : ◌≡◌ {A = ℕ} 0 1 = cc in omega arith) in
-    (length ns, is, subst (λ l. Departs L l (length ns)) (sym s.split) (subst (Departs L (s.done ++ left rest)) (sym s.count) (after L s.done (left rest) at)))
+    (length ns, is, subst (λ l. Departs L l (length ns)) (sym s.split) (subst (Departs L (s.done ++ rest)) (sym s.count) (after L s.done rest at)))

@@ -1,4 +1,5 @@
 pub mod Departures
 mod FormFaults
 pub mod WordRuns
+mod Answers
 mod Ascents

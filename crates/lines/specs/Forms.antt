@@ -1,9 +1,9 @@
 -- Forms: which lists of fields are in form, what they say, and where others depart from the form.
-use Rattle.std.specs.Prelude.{◌≡◌, ℕ, suc, ◌+◌, ◌<◌, ◌≤◌, min, List, [], ◌∷◌, ◌++◌, length, take, Ok, Err, Option, Result, ◌≢◌}
+use Rattle.std.specs.Prelude.{◌≡◌, ℕ, suc, ◌+◌, ◌<◌, ◌≤◌, min, List, [], ◌∷◌, ◌++◌, length, take, Some, None, Ok, Err, Option, Result, ◌≢◌}
 use Rattle.std.specs.Borrow.{Bor}
 use Rattle.std.specs.Result as results
-use Rattle.fields.specs.Fields.{left}
 use Rattle.fields.specs.declared.faults.FieldFault.{FieldFault}
+use Rattle.lines.specs.declared.numbered.Numbered.{Numbered}
 
 -- The first faulty, missing or surplus field is the j-th, from 0: the fields before it begin a list that is in form; with it they begin none, or where
 -- it is missing the list is not whole.
@@ -23,13 +23,18 @@ Read Form fs (Ok a) = Form fs a
 Read Form fs (Err e) = (j : ℕ) × (e.field ≡ field_number j) × Departs (λ gs. (a : _) × Form gs a) fs j
 
 -- ---- steps of a reader
+-- the first field is given with its number, and the next one has the number after it; without a field nothing is given
+abbrev pub GivesNumbered : Numbered → Option (ℕ × Bor (List ℕ)) → Numbered → Type 0
+GivesNumbered s None t = (s.fields ≡ []) × (t.fields ≡ [])
+GivesNumbered s (Some p) t = (p.0 ≡ s.at) × (s.fields ≡ p.1.now ∷ t.fields) × (t.at ≡ min (s.at + 1) 4294967295)
+
 -- no field is left, or the fault is at the next one
 abbrev pub Ends : {U : Type 0} → List (List ℕ) → ℕ → Result U FieldFault → Type 0
 Ends fs at r = results.MatchResult r (λ _. fs ≡ []) (λ e. (e.field ≡ at) × (fs ≢ []))
 
 -- the next field says a value, or the fault is there
-abbrev pub NextSays : {V : Type 0} → (List ℕ → V → Type 0) → List (List ℕ) → ℕ → Result (V × Option (Bor (List ℕ))) FieldFault → Type 0
-NextSays Says fs at r =
+abbrev pub NextSays : {V : Type 0} → (List ℕ → V → Type 0) → Numbered → Result V FieldFault → Numbered → Type 0
+NextSays Says s r t =
     results.MatchResult r
-    (λ p. (field : List ℕ) × Says field p.0 × (fs ≡ field ∷ left p.1))
-    (λ e. (e.field ≡ at) × ((field : List ℕ) (more : List (List ℕ)) → fs ≡ field ∷ more → (v : _) → Says field v → ⊥))
+    (λ v. (field : List ℕ) × Says field v × (s.fields ≡ field ∷ t.fields) × (t.at ≡ min (s.at + 1) 4294967295))
+    (λ e. (e.field ≡ s.at) × ((field : List ℕ) (more : List (List ℕ)) → s.fields ≡ field ∷ more → (v : _) → Says field v → ⊥))

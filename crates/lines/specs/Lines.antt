@@ -5,7 +5,6 @@ use Rattle.depot.specs.declared.values.Grant.{Grant}
 use Rattle.depot.specs.declared.values.Plan.{Plan}
 use Rattle.fields.specs.Numbers.{Number}
 use Rattle.fields.specs.Values.{PlanText, GrantText}
-use Rattle.lines.specs.declared.words.Words.{Words}
 
 -- `controllers`: how many there are
 abbrev pub ControllersForm : List (List ℕ) → ℕ → Type 0
@@ -69,10 +68,6 @@ SayWords Says [] (w ∷ ws) = ⊥
 SayWords Says (f ∷ fs) [] = ⊥
 SayWords Says (f ∷ fs) (w ∷ ws) = SaysWord Says f w × SayWords Says fs ws
 
--- the words kept
-abbrev pub row : {V : Type 0} → Words V → List (Option V)
-row w = take w.len w.items
-
 -- of the words said the first 17 are kept, which is more than any row may have
-abbrev pub HearForm : {V : Type 0} → (List ℕ → V → Type 0) → List (List ℕ) → Words V → Type 0
-HearForm Says fs w = (ws : List (Option _)) × SayWords Says fs ws × (row w ≡ take 17 ws)
+abbrev pub HearForm : {V : Type 0} → (List ℕ → V → Type 0) → List (List ℕ) → List (Option V) → Type 0
+HearForm Says fs kept = (ws : List (Option _)) × SayWords Says fs ws × (kept ≡ take 17 ws)

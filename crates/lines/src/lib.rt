@@ -4,6 +4,7 @@
 
 #![tactic(auto)]
 
+mod numbered;
 mod readers;
 mod sets;
 mod verbs;

@@ -1,19 +1,18 @@
 //! The controllers of a set.
-ghost use Rattle.std.specs.Prelude.{◌≡◌, ◌+◌, ◌^◌, ◌<◌, ◌≤◌, Some, None};
+ghost use Rattle.std.specs.Prelude.{◌≡◌};
 ghost use Rattle.fields.specs.Reading.{Reads};
 ghost use Rattle.lines.specs.Forms.{Read};
-ghost use Rattle.fields.specs.Fields.{left};
 ghost use Rattle.lines.specs.Lines.{NumberFrom, SetForm, with_controller};
 
-use fields::{FieldFault, next_field, number};
+use crate::numbered::Numbered;
+use fields::{FieldFault, Fields, number};
 use structure::Group;
 
 /// The number that a field says, if it is one and not below another.
 fn number_from(low: u32, field: &[u8]) -> Option<u32>
     ensures { Reads (NumberFrom low) field.now result }
 {
-    let n = number(field)?;
-    if low <= n { Some(n) } else { None }
+    number(field).filter(|n| low <= *n)
 }
 
 /// The group with one more controller, above all of its own; there is none with a controller from 16 on.
@@ -29,22 +28,15 @@ fn with(group: Option<Group>, controller: u32) -> Option<Group>
 }
 
 /// After `set`: rising controllers. Their group, or none where one is 16 or above, which no yard has.
-pub fn read_set(rest: Option<&[u8]>) -> Result<Option<Group>, FieldFault>
-    ensures { Read SetForm (left rest.entry) result }
+pub fn read_set(rest: Fields<'_>) -> Result<Option<Group>, FieldFault>
+    ensures { Read SetForm rest.entry result }
 {
     let mut group = Some(0);
-    let mut left = rest;
     let mut low = 0;
-    let mut at = 2u32;
-    while let Some(bytes) = left {
-        let (field, after) = next_field(bytes);
-        let Some(controller) = number_from(low, field) else {
-            return Err(FieldFault { field: at });
-        };
+    for (at, field) in Numbered::after_first(rest) {
+        let controller = number_from(low, field).ok_or(FieldFault { field: at })?;
         group = with(group, controller);
         low = controller + 1;
-        left = after;
-        at = at.saturating_add(1);
     }
     Ok(group)
 }

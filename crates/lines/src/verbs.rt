@@ -1,9 +1,7 @@
 //! The first field of a line.
-ghost use Rattle.std.specs.Prelude.{◌≡◌, Decides};
-ghost use Rattle.fields.specs.Reading.{Reads};
-ghost use Rattle.lines.specs.Verbs.{Names, ReadsVerb};
+ghost use Rattle.lines.specs.Verbs.{NamesVerb, ReadsVerb};
 
-use fields::{FieldFault, next_field};
+use fields::{FieldFault, Fields, next_field};
 
 /// What the first field of a line names.
 #[derive(Clone, Copy, PartialEq, Eq, Debug)]
@@ -17,41 +15,31 @@ pub enum Verb {
     Hear,
 }
 
-/// Whether a field is a word.
-fn same(field: &[u8], word: &[u8]) -> bool
-    ensures { Decides result (field.now ≡ word.now) }
-{
-    field == word
-}
+/// What a first field names. Where it names nothing, field 1 is at fault.
+impl TryFrom<&[u8]> for Verb {
+    type Error = FieldFault;
 
-/// What a field names, if it is the first field of a line in form.
-fn named_by(field: &[u8]) -> Option<Verb>
-    ensures { Reads Names field.now result }
-{
-    if same(field, b"hear") {
-        Some(Verb::Hear)
-    } else if same(field, b"offer") {
-        Some(Verb::Offer)
-    } else if same(field, b"set") {
-        Some(Verb::Set)
-    } else if same(field, b"seal") {
-        Some(Verb::Seal)
-    } else if same(field, b"controllers") {
-        Some(Verb::Controllers)
-    } else if same(field, b"plans") {
-        Some(Verb::Plans)
-    } else if same(field, b"board") {
-        Some(Verb::Board)
-    } else {
-        None
+    ghost try_from_gives = { NamesVerb };
+
+    fn try_from(field: &[u8]) -> Result<Verb, FieldFault> {
+        match field {
+            b"hear" => Ok(Verb::Hear),
+            b"offer" => Ok(Verb::Offer),
+            b"set" => Ok(Verb::Set),
+            b"seal" => Ok(Verb::Seal),
+            b"controllers" => Ok(Verb::Controllers),
+            b"plans" => Ok(Verb::Plans),
+            b"board" => Ok(Verb::Board),
+            _ => Err(FieldFault { field: 1 }),
+        }
     }
 }
 
-/// What the first field of a line names, and what is left of the line. Where it names nothing, field 1 is at fault.
-pub fn read_verb(line: &[u8]) -> Result<(Verb, Option<&[u8]>), FieldFault>
+/// What the first field of a line names, and the fields after it. Where it names nothing, field 1 is at fault.
+pub fn read_verb(line: &[u8]) -> Result<(Verb, Fields<'_>), FieldFault>
     ensures { ReadsVerb line.now result }
 {
     let (first, rest) = next_field(line);
-    let verb = named_by(first).ok_or(FieldFault { field: 1 })?;
-    Ok((verb, rest))
+    let verb = Verb::try_from(first)?;
+    Ok((verb, Fields::from(rest)))
 }

@@ -12,10 +12,7 @@ impl fmt::Display for Answer {
         match self.0 {
             Ok(Outcome::Taken) => write!(f, "taken"),
             Ok(Outcome::Aside(reason)) => write!(f, "set aside, {reason}"),
-            Err(refusal) => {
-                let number = refusal.number();
-                write!(f, "refused, {number}")
-            }
+            Err(refusal) => write!(f, "refused, {}", refusal.number()),
         }
     }
 }
@@ -37,14 +34,8 @@ impl fmt::Display for Bar {
 const FULL_BAR: u64 = 40;
 
 /// Hands out some grants, and prints what each was answered and the board after them.
-pub fn show(rt: &HostRuntime) -> io::Result<()> {
-    let mut board = match Board::new(5, 100) {
-        Ok(board) => board,
-        Err(refusal) => {
-            let number = refusal.number();
-            return println!(rt; "the board is refused, {number}");
-        }
-    };
+pub fn show(rt: &HostRuntime) -> anyhow::Result<()> {
+    let mut board = Board::new(5, 100)?;
     let grants = [
         Grant { bay: 0, amps: 60 },
         Grant { bay: 1, amps: 40 },
@@ -64,11 +55,11 @@ pub fn show(rt: &HostRuntime) -> io::Result<()> {
     println!(rt; "bay/amps answer")?;
     for grant in &grants {
         let answer = Answer(board.take(grant));
-        let Grant { bay, amps } = *grant;
-        println!(rt; "{bay}/{amps:<6} {answer}")?;
+        println!(rt; "{}/{:<6} {answer}", grant.bay, grant.amps)?;
     }
     println!(rt)?;
-    show_board(rt, &board)
+    show_board(rt, &board)?;
+    Ok(())
 }
 
 /// Prints a line with a bar for each bay, and the sum.
@@ -80,6 +71,5 @@ pub fn show_board(rt: &HostRuntime, board: &Board) -> io::Result<()> {
         let bar = Bar(u64::from(amps) * FULL_BAR / u64::from(feed.max(1)));
         println!(rt; "{number:>3} {amps:>5} |{bar}")?;
     }
-    let total = board.total();
-    println!(rt; "all {total:>5} of {feed}")
+    println!(rt; "all {:>5} of {feed}", board.total())
 }

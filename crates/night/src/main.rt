@@ -8,12 +8,11 @@ mod wiring;
 
 fn run(rt: &HostRuntime) -> anyhow::Result<()> {
     wiring::show(rt)?;
-    println!(rt; "")?;
+    println!(rt)?;
     slots::show(rt)?;
-    println!(rt; "")?;
+    println!(rt)?;
     println!(rt; "A board of five bays on a feed of 100 A.")?;
-    grants::show(rt)?;
-    Ok(())
+    grants::show(rt)
 }
 
 fn main(rt: HostRuntime) -> anyhow::Result<()> {

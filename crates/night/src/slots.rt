@@ -1,14 +1,16 @@
 //! Whole slots in two yards where some controllers lie: what is said round by round, and what the good ones close with.
 
 use crate::grants::{Answer, show_board};
+use crate::wiring::drafted;
 use agreement::{OwnRounds, seal_agreed};
-use anyhow::anyhow;
+use anyhow::ensure;
 use depot::{Board, Grant};
-use duty::Duty;
+use duty::{Duty, DutyRefusal};
 use engine::{Controller, Heard};
+use std::alloc::{AllocError, Global};
 use std::fmt;
 use structure::Group;
-use survivor::{Draft, Table};
+use survivor::{DraftRefusal, Table};
 
 /// A word: a grant, or nothing.
 type Word = Option<Grant>;
@@ -34,91 +36,89 @@ impl fmt::Display for Shown {
 
 /// Three words as they are printed.
 #[derive(Drop)]
-struct Row(Words);
+struct Said(Words);
 
-impl fmt::Display for Row {
+impl fmt::Display for Said {
     fn fmt<W: fmt::Write>(&self, f: &mut fmt::Formatter<W>) -> fmt::Result {
         for word in &self.0 {
-            let shown = Shown(*word);
-            write!(f, "{shown}")?;
+            write!(f, "{}", Shown(*word))?;
         }
         Ok(())
     }
 }
 
-/// Who lies.
-#[derive(Clone, Copy)]
-enum Liars {
-    /// Controller 3 of four.
-    Last,
-    /// Controllers 0, 1 and 2 of six, which say the same.
-    Cabinet,
+/// A good controller, and its place in the yard.
+#[derive(Drop)]
+struct Good {
+    place: usize,
+    controller: Controller<Table, Board>,
 }
 
-impl Liars {
-    /// The good controllers, as they are named in a line.
-    fn good(self) -> [u8; 3] {
-        match self {
-            Liars::Last => [0, 1, 2],
-            Liars::Cabinet => [3, 4, 5],
-        }
+impl Good {
+    /// One on an empty board of four bays and a feed of 100 A.
+    fn open(table: &Table, place: usize, first: Grant) -> anyhow::Result<Good> {
+        let board = Board::new(4, 100)?;
+        let controller = Controller::open(*table, board, first).map_err(
+            |unopened| unopened.refusal,
+        )?;
+        Ok(Good { place, controller })
     }
 }
 
-/// The good controllers of a yard.
+/// A yard, by its good controllers. The others lie, and all say the same.
 #[derive(Drop)]
 struct Yard {
-    liars: Liars,
-    good: [Controller<Table, Board>; 3],
-}
-
-/// One controller hears what the good ones spoke and what the liars tell it.
-fn hear(
-    controller: &mut Controller<Table, Board>,
-    liars: Liars,
-    spoken: &Words,
-    lie: Word,
-) -> anyhow::Result<Heard<Grant>> {
-    let [a, b, c] = *spoken;
-    let heard = match liars {
-        Liars::Last => controller.hear(&[a, b, c, lie]),
-        Liars::Cabinet => controller.hear(&[lie, lie, lie, a, b, c]),
-    };
-    match heard {
-        Ok(heard) => Ok(heard),
-        Err(_) => Err(anyhow!("a row of another length")),
-    }
+    size: usize,
+    liars: &'static str,
+    good: [Good; 3],
 }
 
 impl Yard {
-    fn open(table: &Table, liars: Liars, firsts: [Grant; 3]) -> anyhow::Result<Yard> {
-        let [a, b, c] = firsts;
-        let good = [open(table, a)?, open(table, b)?, open(table, c)?];
-        Ok(Yard { liars, good })
+    fn places(&self) -> [usize; 3] {
+        self.good.each_ref().map(|good| good.place)
     }
 
     /// What the good controllers say in the round that is due.
     fn speak(&self) -> Words {
-        let [a, b, c] = &self.good;
-        [a.speak(), b.speak(), c.speak()]
+        self.good.each_ref().map(|good| good.controller.speak())
     }
 
-    /// Each good controller is offered a grant for the next slot.
-    fn offer(&mut self, grants: [Grant; 3]) {
-        for (controller, grant) in self.good.iter_mut().zip(&grants) {
-            let _ = controller.offer(*grant);
+    /// A row for each good controller: what the good ones spoke, and what the liars tell this one.
+    fn rows(
+        &self,
+        heap: Global,
+        spoken: &Words,
+        lies: &Words,
+    ) -> Result<[Vec<Word>; 3], AllocError> {
+        lies.try_map(|lie| {
+            let mut row = vec![in heap; lie; self.size]?;
+            for (good, word) in self.good.iter().zip(spoken) {
+                if let Some(told) = row.get_mut(good.place) {
+                    *told = *word;
+                }
+            }
+            Ok(row)
+        })
+    }
+
+    /// Each good controller is offered this grant for the next slot.
+    fn offer(&mut self, grant: Grant) -> Result<(), DutyRefusal> {
+        for good in self.good.iter_mut() {
+            good.controller.offer(grant)?;
         }
+        Ok(())
     }
 
     /// One round; prints what a good controller answers where its slot closes.
     fn round(&mut self, rt: &HostRuntime, spoken: &Words, lies: &Words) -> anyhow::Result<()> {
-        let liars = self.liars;
-        let names = liars.good();
-        for ((controller, name), lie) in self.good.iter_mut().zip(&names).zip(lies) {
-            if let Heard::Closed(value, outcome) = hear(controller, liars, spoken, *lie)? {
-                let Grant { bay, amps } = value;
-                let answer = Answer(Ok(outcome));
-                println!(rt; "{name} closes with {bay}/{amps}, {answer}")?;
+        let rows = self.rows(rt.alloc(), spoken, lies)?;
+        for (good, row) in self.good.iter_mut().zip(&rows) {
+            if let Heard::Closed(grant, outcome) = good.controller.hear(row.as_slice())? {
+                println!(rt;
+                    "{} closes with {grant}, {}",
+                    good.place,
+                    Answer(Ok(outcome))
+                )?;
             }
         }
         Ok(())
@@ -126,66 +126,44 @@ impl Yard {
 
     /// Runs a slot with these lies, and prints each round of it.
     fn slot(&mut self, rt: &HostRuntime, lies: &Lies) -> anyhow::Result<()> {
-        let [a, b, c] = self.liars.good();
-        let who = match self.liars {
-            Liars::Last => "3 tells",
-            Liars::Cabinet => "0 1 2 tell",
-        };
-        println!(rt; "round{a:>6}{b:>6}{c:>6}   {who:<10}{a:>6}{b:>6}{c:>6}")?;
-        for (i, told) in lies.iter().enumerate() {
-            let round = i + 1;
+        let [a, b, c] = self.places();
+        println!(rt;
+            "round{a:>6}{b:>6}{c:>6}   {:<10}{a:>6}{b:>6}{c:>6}",
+            self.liars
+        )?;
+        for (round, told) in (1..).zip(lies) {
             let spoken = self.speak();
-            let said = Row(spoken);
-            let lied = Row(*told);
-            println!(rt; "{round:>5}{said}             {lied}")?;
+            println!(rt; "{round:>5}{}             {}", Said(spoken), Said(*told))?;
             self.round(rt, &spoken, told)?;
         }
         Ok(())
     }
 
-    /// Whether the boards of the good controllers are alike.
-    fn agree(&self) -> bool {
-        let [a, b, c] = &self.good;
-        let bays = a.duty().bays();
-        bays == b.duty().bays() && bays == c.duty().bays()
-    }
-
     /// Prints the board on which the good controllers agree.
     fn show_agreed(&self, rt: &HostRuntime) -> anyhow::Result<()> {
-        if !self.agree() {
-            return Err(anyhow!("the boards differ"));
+        let [a, b, c] = &self.good;
+        let board = a.controller.duty();
+        for other in [b, c] {
+            ensure!(
+                other.controller.duty().bays() == board.bays(),
+                "the boards differ"
+            );
         }
-        let [a, b, c] = self.liars.good();
-        println!(rt; "{a}, {b} and {c} all have this board:")?;
-        let [first, _, _] = &self.good;
-        show_board(rt, first.duty())?;
+        println!(rt;
+            "{}, {} and {} all have this board:",
+            a.place, b.place, c.place
+        )?;
+        show_board(rt, board)?;
         Ok(())
     }
 }
 
-/// A good controller on an empty board of four bays and a feed of 100 A.
-fn open(table: &Table, first: Grant) -> anyhow::Result<Controller<Table, Board>> {
-    let Ok(board) = Board::new(4, 100) else {
-        return Err(anyhow!("a board of four bays"));
-    };
-    match Controller::open(*table, board, first) {
-        Ok(controller) => Ok(controller),
-        Err(_) => Err(anyhow!("a grant that does not fit")),
-    }
-}
-
-fn seal(n: u32, sets: &[Group]) -> anyhow::Result<Table> {
-    let Ok(mut draft) = Draft::new(n) else {
-        return Err(anyhow!("no yard of this size"));
-    };
-    for set in sets {
-        let _ = draft.add(*set);
-    }
+/// A table of these sets for a yard of `n`.
+fn seal(n: u32, sets: &[Group]) -> Result<Table, DraftRefusal> {
+    let draft = drafted(n, sets)?;
     let mut table = Table::new();
-    match seal_agreed::<OwnRounds, Table, Board>(&draft, &mut table) {
-        Ok(()) => Ok(table),
-        Err(_) => Err(anyhow!("no yard can agree on these sets")),
-    }
+    seal_agreed::<OwnRounds, Table, Board>(&draft, &mut table)?;
+    Ok(table)
 }
 
 const A: Grant = Grant { bay: 0, amps: 60 };
@@ -245,8 +223,16 @@ fn four(rt: &HostRuntime) -> anyhow::Result<()> {
     println!(rt;
         "They propose two grants, and close with one. During the slot each is offered 1/50 for the next."
     )?;
-    let mut yard = Yard::open(&table, Liars::Last, [A, A, B])?;
-    yard.offer([C, C, C]);
+    let mut yard = Yard {
+        size: 4,
+        liars: "3 tells",
+        good: [
+            Good::open(&table, 0, A)?,
+            Good::open(&table, 1, A)?,
+            Good::open(&table, 2, B)?,
+        ],
+    };
+    yard.offer(C)?;
     yard.slot(rt, &FOUR_FIRST)?;
     println!(rt;
         "Now all three propose 1/50, so that is the value, whatever 3 says; it would pass the feed."
@@ -262,8 +248,16 @@ fn six(rt: &HostRuntime) -> anyhow::Result<()> {
         "Slots of the yard of six. The whole cabinet lies, and 0 leads first. Where 3, 4 and 5 propose different"
     )?;
     println!(rt; "grants, the liars may bring in one of their own, but the same to all.")?;
-    let mut yard = Yard::open(&table, Liars::Cabinet, [A, A, B])?;
-    yard.offer([A, A, A]);
+    let mut yard = Yard {
+        size: 6,
+        liars: "0 1 2 tell",
+        good: [
+            Good::open(&table, 3, A)?,
+            Good::open(&table, 4, A)?,
+            Good::open(&table, 5, B)?,
+        ],
+    };
+    yard.offer(A)?;
     yard.slot(rt, &SIX_FIRST)?;
     println!(rt; "Now all three propose 0/60.")?;
     yard.slot(rt, &SIX_SECOND)?;
@@ -272,6 +266,6 @@ fn six(rt: &HostRuntime) -> anyhow::Result<()> {
 
 pub fn show(rt: &HostRuntime) -> anyhow::Result<()> {
     four(rt)?;
-    println!(rt; "")?;
+    println!(rt)?;
     six(rt)
 }

@@ -1,7 +1,6 @@
 //! Two wirings: one that is sealed, and one that no yard can agree on.
 
-use anyhow::anyhow;
-use std::fmt;
+use std::{fmt, io};
 use structure::{Group, Structure, belongs};
 use survivor::{Draft, DraftRefusal, Table};
 
@@ -48,25 +47,23 @@ impl fmt::Display for Others {
 /// The group of a list of controllers.
 fn group_of(controllers: &[u8]) -> Group {
     let mut group = 0;
-    for i in controllers {
-        if *i < 16 {
-            group |= 1 << *i;
+    for &i in controllers {
+        if i < 16 {
+            group |= 1 << i;
         }
     }
     group
 }
 
 /// Prints the sets of a draft: who stands in each, and who may fail together while it goes on.
-fn show_sets(rt: &HostRuntime, draft: &Draft) -> anyhow::Result<()> {
+fn show_sets(rt: &HostRuntime, draft: &Draft) -> io::Result<()> {
     let size = draft.size();
     print!(rt; "  controller")?;
     for i in 0..size {
         print!(rt; " {i:>2}")?;
     }
-    println!(rt; "")?;
-    for (i, set) in draft.sets().iter().enumerate() {
-        let place = i + 1;
-        let group = *set;
+    println!(rt)?;
+    for (place, &group) in (1..).zip(draft.sets()) {
         let members = Columns {
             size,
             group,
@@ -78,35 +75,32 @@ fn show_sets(rt: &HostRuntime, draft: &Draft) -> anyhow::Result<()> {
     Ok(())
 }
 
+/// A draft of these sets for a yard of `n`.
+pub fn drafted(n: u32, sets: &[Group]) -> Result<Draft, DraftRefusal> {
+    let mut draft = Draft::new(n)?;
+    for set in sets {
+        draft.add(*set)?;
+    }
+    Ok(draft)
+}
+
 /// Drafts the sets, seals them, and prints what came of it.
 fn seal(rt: &HostRuntime, n: u32, sets: &[Group]) -> anyhow::Result<()> {
-    let Ok(mut draft) = Draft::new(n) else {
-        return Err(anyhow!("no yard of this size"));
-    };
-    for set in sets {
-        if let Err(refusal) = draft.add(*set) {
-            let number = refusal.number();
-            println!(rt; "  adding {set} is refused with {number}")?;
-        }
-    }
+    let draft = drafted(n, sets)?;
     show_sets(rt, &draft)?;
     let mut table = Table::new();
     match draft.seal(&mut table) {
-        Ok(()) => show_leads(rt, &table),
+        Ok(()) => show_leads(rt, &table)?,
         Err(DraftRefusal::NoneShared(p, q, r)) => {
-            println!(rt; "Refused with 14: sets {p}, {q} and {r} have no controller in common.")?;
-            Ok(())
+            println!(rt; "Refused with 14: sets {p}, {q} and {r} have no controller in common.")?
         }
-        Err(refusal) => {
-            let number = refusal.number();
-            println!(rt; "Refused with {number}.")?;
-            Ok(())
-        }
+        Err(refusal) => println!(rt; "Refused with {}.", refusal.number())?,
     }
+    Ok(())
 }
 
 /// Prints who leads a sealed table, and what that makes of a slot.
-fn show_leads(rt: &HostRuntime, table: &Table) -> anyhow::Result<()> {
+fn show_leads(rt: &HostRuntime, table: &Table) -> io::Result<()> {
     let leads = table.leads();
     let columns = Columns {
         size: table.size(),
@@ -118,9 +112,7 @@ fn show_leads(rt: &HostRuntime, table: &Table) -> anyhow::Result<()> {
     for lead in leads {
         print!(rt; " {lead}")?;
     }
-    let phases = leads.len();
-    println!(rt; ": {phases} phases in a slot, one for each.")?;
-    Ok(())
+    println!(rt; ": {} phases in a slot, one for each.", leads.len())
 }
 
 pub fn show(rt: &HostRuntime) -> anyhow::Result<()> {
@@ -128,7 +120,7 @@ pub fn show(rt: &HostRuntime) -> anyhow::Result<()> {
         "A yard of six. Controllers 0, 1 and 2 share a cabinet and fail together; 3, 4 and 5 stand alone."
     )?;
     seal(rt, 6, &[0b111000, 0b110111, 0b101111, 0b011111])?;
-    println!(rt; "")?;
+    println!(rt)?;
     println!(rt;
         "A yard of three, of which any one may fail. Every two sets share a controller, but not all three."
     )?;

@@ -1,6 +1,9 @@
 ghost use Rattle.std.specs.Prelude.{◌≡◌};
 ghost use Rattle.survivor.specs.Refusals.{number};
 
+use std::error::Error;
+use std::fmt;
+
 /// Why a call on a draft was refused. A place is that of a set in the draft, from 1.
 #[derive(Clone, Copy, PartialEq, Eq, Debug)]
 pub enum DraftRefusal {
@@ -33,3 +36,30 @@ impl DraftRefusal {
         }
     }
 }
+
+impl fmt::Display for DraftRefusal {
+    fn fmt<W: fmt::Write>(&self, f: &mut fmt::Formatter<W>) -> fmt::Result {
+        match self {
+            DraftRefusal::YardSize => write!(f, "a yard has 1 to 16 controllers"),
+            DraftRefusal::EmptyOrOutside => {
+                write!(
+                    f,
+                    "the set is empty, or names a controller outside the yard"
+                )
+            }
+            DraftRefusal::Full => write!(f, "the draft has 64 sets"),
+            DraftRefusal::Comparable(place) => {
+                write!(
+                    f,
+                    "the set contains, equals or lies within the one at place {place}"
+                )
+            }
+            DraftRefusal::NoSet => write!(f, "the draft has no set"),
+            DraftRefusal::NoneShared(p, q, r) => {
+                write!(f, "the sets at places {p}, {q} and {r} share no controller")
+            }
+        }
+    }
+}
+
+impl Error for DraftRefusal {}

@@ -1,5 +1,6 @@
 -- What the lines on drafts come to, put together from what their steps gave.
-use Rattle.std.proofs.Common.{◌≡◌, ℕ, List, Some, Ok, Option, Result, sym, subst}
+use Rattle.std.proofs.Common.{◌≡◌, ℕ, List, Some, None, Ok, Option, Result, sym, ap, subst, arith}
+use Rattle.std.specs.Option.{ok_or}
 use Rattle.survivor.specs.declared.refusals.DraftRefusal.{DraftRefusal}
 use Rattle.survivor.specs.declared.tables.Draft.{Draft}
 use Rattle.survivor.specs.declared.tables.Table.{Table}
@@ -9,6 +10,11 @@ use Rattle.answers.specs.declared.replies.Reply.{Reply}
 use Rattle.text.specs.declared.yards.Yard.{Yard}
 use Rattle.text.specs.Yards.{Needs, ReadsThen}
 use Rattle.text.specs.Drafting.{Added, AddingTold, TakesSet, Adds, Sealing, SealingTold, Seals}
+
+-- what is taken to be there is there
+pub was_there : {X E : Type 0} (o : Option X) (e : E) (r : Result X E) (x : X) → r ≡ ok_or o e → r ≡ Ok x → o ≡ Some x
+was_there None e r x is ok = absurd (let z : ◌≡◌ {A = ℕ} 0 1 = cc in omega arith)
+was_there (Some w) e r x is ok = let same : w ≡ x = cc in ap Some same
 
 -- what is needed is there
 pub there : {X : Type 0} (then : X → Yard → Result Reply Fault → Yard → Type 0) (o : Option X) (x : X) (y y' : Yard) (r : Result Reply Fault) → o ≡ Some x → then x y r y' → Needs o then y r y'

@@ -28,11 +28,11 @@ module _ {D V : Type 0} (G : Duty D V) (K : Same V) (Says : List ℕ → V → T
   pub row_refused : (c c' : Controller Table D V) (fs : List (List ℕ)) (f : Fault) → RowHeard G K Says agreed running c fs (Err f) c' → c' ≡ c
   row_refused c c' fs f r = go r.0 r.2
     where
-      told : (ws : List (Option V)) (b : Result (Heard V) RowRefusal) → Hears table_structure G K c ws b c' → ◌≡◌ {A = Result Reply Fault} (Err f) (row_told G K Says agreed running b) → c' ≡ c
+      told : (ws : List (Option V)) (b : Result (Heard V) RowRefusal) → Hears table_structure G K c ws b c' → ◌≡◌ {A = Result Reply Fault} (Err f) (row_told G K agreed running b) → c' ≡ c
       told ws (Ok h) hears is = let z : ◌≡◌ {A = ℕ} 0 1 = cc in absurd (omega arith)
       told ws (Err e) hears is = unheard c c' ws e hears
 
-      go : (a : Result (List (Option V)) FieldFault) → RowRead G K Says agreed running a c (Err f) c' → c' ≡ c
+      go : (a : Result (List (Option V)) FieldFault) → RowRead G K agreed running a c (Err f) c' → c' ≡ c
       go (Err e) x = x.1
       go (Ok ws) x = told ws x.0 x.1 x.2
 
@@ -46,10 +46,10 @@ module _ {D V : Type 0} (G : Duty D V) (K : Same V) (Says : List ℕ → V → T
   pub offer_refused : (c c' : Controller Table D V) (fs : List (List ℕ)) (f : Fault) → Offered G K Says agreed running c fs (Err f) c' → c' ≡ c
   offer_refused c c' fs f r = go r.0 r.2
     where
-      told : (v : V) (b : Result (Unit {0}) DutyRefusal) → Offers table_structure G K c v b c' → ◌≡◌ {A = Result Reply Fault} (Err f) (offer_told G K Says agreed running b) → c' ≡ c
+      told : (v : V) (b : Result (Unit {0}) DutyRefusal) → Offers table_structure G K c v b c' → ◌≡◌ {A = Result Reply Fault} (Err f) (offer_told G K agreed running b) → c' ≡ c
       told v (Ok u) offers is = let z : ◌≡◌ {A = ℕ} 0 1 = cc in absurd (omega arith)
       told v (Err e) offers is = untaken c c' v e offers
 
-      go : (a : Result V FieldFault) → OfferRead G K Says agreed running a c (Err f) c' → c' ≡ c
+      go : (a : Result V FieldFault) → OfferRead G K agreed running a c (Err f) c' → c' ≡ c
       go (Err e) x = x.1
       go (Ok v) x = told v x.0 x.1 x.2

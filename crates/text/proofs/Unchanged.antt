@@ -8,7 +8,6 @@ use Rattle.survivor.specs.declared.tables.Draft.{Draft}
 use Rattle.survivor.specs.declared.tables.Table.{Table}
 use Rattle.engine.specs.declared.controllers.Controller.{Controller}
 use Rattle.engine.specs.declared.controllers.Unopened.{Unopened}
-use Rattle.fields.specs.Values.{PlanText, GrantText}
 use Rattle.fields.specs.declared.faults.FieldFault.{FieldFault}
 use Rattle.lines.specs.declared.verbs.Verb.{Verb}
 use Rattle.lines.specs.declared.verbs.Verb.TheVariants as Verbs
@@ -53,31 +52,31 @@ module _ (y y' : Yard) (r : Result Reply Fault) (f : Fault) (refused : r ≡ Err
   sealing (Ok u) t s = done _ _ s
   sealing (Err e) t s = s.1
 
-  module _ {D V : Type 0} (G : Duty D V) (K : Same V) (Says : List ℕ → V → Type 0) (agreed : V → Agreed) (running : Controller Table D V → Running) where
-    opening : (o : Result (Controller Table D V) (Unopened Table D)) → OpeningTold G K Says agreed running o y r y' → y' ≡ y
+  module _ {D V : Type 0} (G : Duty D V) (K : Same V) (agreed : V → Agreed) (running : Controller Table D V → Running) where
+    opening : (o : Result (Controller Table D V) (Unopened Table D)) → OpeningTold G K agreed running o y r y' → y' ≡ y
     opening (Ok c) t = done _ _ t
     opening (Err u) t = t.1
 
-    opens : (t : Table) (v : V) (m : Result D SettingsRefusal) → OpensOn G K Says agreed running t v m y r y' → y' ≡ y
+    opens : (t : Table) (v : V) (m : Result D SettingsRefusal) → OpensOn G K agreed running t v m y r y' → y' ≡ y
     opens t v (Err e) o = o.1
     opens t v (Ok d) o = opening o.0 o.2
 
-    driven : (c' : Controller Table D V) → Driven G K Says agreed running c' y r y' → y' ≡ y
-    driven c' d = subst (λ x. Driven G K Says agreed running c' y x y') refused d
+    driven : (c' : Controller Table D V) → Driven G K agreed running c' y r y' → y' ≡ y
+    driven c' d = subst (λ x. Driven G K agreed running c' y x y') refused d
 
   offering : (fs : List (List ℕ)) (c : Running) → OffersWith fs c y r y' → y' ≡ y
-  offering fs (Runnings.Plans c) o = driven book_duty plan_kind PlanText Agreeds.Plan Runnings.Plans o.0 o.2
-  offering fs (Runnings.Board c) o = driven board_duty grant_kind GrantText Agreeds.Grant Runnings.Board o.0 o.2
+  offering fs (Runnings.Plans c) o = driven book_duty plan_kind Agreeds.Plan Runnings.Plans o.0 o.2
+  offering fs (Runnings.Board c) o = driven board_duty grant_kind Agreeds.Grant Runnings.Board o.0 o.2
 
   hearing : (fs : List (List ℕ)) (c : Running) → HearsWith fs c y r y' → y' ≡ y
-  hearing fs (Runnings.Plans c) h = driven book_duty plan_kind PlanText Agreeds.Plan Runnings.Plans h.0 h.2
-  hearing fs (Runnings.Board c) h = driven board_duty grant_kind GrantText Agreeds.Grant Runnings.Board h.0 h.2
+  hearing fs (Runnings.Plans c) h = driven book_duty plan_kind Agreeds.Plan Runnings.Plans h.0 h.2
+  hearing fs (Runnings.Board c) h = driven board_duty grant_kind Agreeds.Grant Runnings.Board h.0 h.2
 
   pub unchanged : (v : Verb) (fs : List (List ℕ)) → Obeys v y fs r y' → y' ≡ y
   unchanged Verbs.Controllers fs o = reads _ o.0 o.2 (λ n b. making b.0 b.2)
   unchanged Verbs.Set fs o = needs _ y.draft o (λ d x. reads _ x.0 x.2 (λ g t. taking d g t))
   unchanged Verbs.Seal fs o = needs _ y.draft o (λ d x. reads _ x.0 x.2 (λ u t. sealing t.0 t.1 t.3))
-  unchanged Verbs.Plans fs o = needs _ y.table o (λ t x. reads _ x.0 x.2 (λ said m. opens book_duty plan_kind PlanText Agreeds.Plan Runnings.Plans t said.1 m.0 m.2))
-  unchanged Verbs.Board fs o = needs _ y.table o (λ t x. reads _ x.0 x.2 (λ said m. opens board_duty grant_kind GrantText Agreeds.Grant Runnings.Board t said.2 m.0 m.2))
+  unchanged Verbs.Plans fs o = needs _ y.table o (λ t x. reads _ x.0 x.2 (λ said m. opens book_duty plan_kind Agreeds.Plan Runnings.Plans t said.1 m.0 m.2))
+  unchanged Verbs.Board fs o = needs _ y.table o (λ t x. reads _ x.0 x.2 (λ said m. opens board_duty grant_kind Agreeds.Grant Runnings.Board t said.2 m.0 m.2))
   unchanged Verbs.Offer fs o = needs _ y.running o (offering fs)
   unchanged Verbs.Hear fs o = needs _ y.running o (hearing fs)

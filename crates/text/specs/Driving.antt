@@ -54,24 +54,28 @@ board_duty = BoardImpl.ghosts
 abbrev pub grant_kind : Same Grant
 grant_kind = GrantImpl.ghosts
 
--- ---- for either duty: `Says` is the text of its values, and `agreed` and `running` name its values and its controllers among those of both
-module _ {D V : Type 0} (G : Duty D V) (K : Same V) (Says : List ℕ → V → Type 0) (agreed : V → Agreed) (running : Controller Table D V → Running) where
+-- ---- for either duty: `agreed` and `running` name its values and its controllers among those of both
+module _ {D V : Type 0} (G : Duty D V) (K : Same V) (agreed : V → Agreed) (running : Controller Table D V → Running) where
   -- the answer of an opening is told, and the controller takes the place of any that stood
   abbrev pub OpeningTold : Result (Controller Table D V) (Unopened Table D) → Yard → Result Reply Fault → Yard → Type 0
   OpeningTold (Ok c) y r y' = DoneWith Done (with_running y (running c)) r y'
   OpeningTold (Err u) y r y' = Refused (Faults.Duty u.refusal) y r y'
 
+  -- the controller is opened on the table t with the duty d and the first proposal v, and the answer is told
+  abbrev pub Opened : Table → D → V → Yard → Result Reply Fault → Yard → Type 0
+  Opened t d v y r y' = (o : Result (Controller Table D V) (Unopened Table D)) × Opens table_structure G K t d v o × OpeningTold o y r y'
+
   -- opening on the table t with the first proposal v, once the duty is made: settings out of range are told of before the proposal is looked at
   abbrev pub OpensOn : Table → V → Result D SettingsRefusal → Yard → Result Reply Fault → Yard → Type 0
   OpensOn t v (Err e) y r y' = Refused (Faults.Settings e) y r y'
-  OpensOn t v (Ok d) y r y' = (o : Result (Controller Table D V) (Unopened Table D)) × Opens table_structure G K t d v o × OpeningTold o y r y'
+  OpensOn t v (Ok d) y r y' = Opened t d v y r y'
 
   -- what comes of a line that drives the controller c: it is c' then, and a refused line leaves the yard as it was
   abbrev pub Driven : Controller Table D V → Yard → Result Reply Fault → Yard → Type 0
   Driven c' y (Ok a) y' = y' ≡ with_running y (running c')
   Driven c' y (Err f) y' = y' ≡ y
 
-  -- ---- the controller c is offered the value that the fields say
+  -- ---- the controller c is offered a value
   abbrev pub offer_told : Result (Unit {0}) DutyRefusal → Result Reply Fault
   offer_told (Ok u) = Ok Done
   offer_told (Err e) = Err (Faults.Duty e)
@@ -81,13 +85,7 @@ module _ {D V : Type 0} (G : Duty D V) (K : Same V) (Says : List ℕ → V → T
   OfferRead (Err e) c r c' = (r ≡ Err (Faults.Field e)) × (c' ≡ c)
   OfferRead (Ok v) c r c' = (b : Result (Unit {0}) DutyRefusal) × Offers table_structure G K c v b c' × (r ≡ offer_told b)
 
-  abbrev pub Offered : Controller Table D V → List (List ℕ) → Result Reply Fault → Controller Table D V → Type 0
-  Offered c fs r c' = (a : Result V FieldFault) × Read (OfferForm Says) fs a × OfferRead a c r c'
-
-  abbrev pub OffersTo : Controller Table D V → List (List ℕ) → Yard → Result Reply Fault → Yard → Type 0
-  OffersTo c fs y r y' = (c' : Controller Table D V) × Offered c fs r c' × Driven c' y r y'
-
-  -- ---- the controller c hears the words that the fields say
+  -- ---- the controller c hears words
   abbrev pub reply_of : Heard V → Reply
   reply_of (Heards.Round k) = Round k
   reply_of (Heards.Closed v o) = Closed (agreed v) o
@@ -101,22 +99,32 @@ module _ {D V : Type 0} (G : Duty D V) (K : Same V) (Says : List ℕ → V → T
   RowRead (Err e) c r c' = (r ≡ Err (Faults.Field e)) × (c' ≡ c)
   RowRead (Ok ws) c r c' = (b : Result (Heard V) RowRefusal) × Hears table_structure G K c ws b c' × (r ≡ row_told b)
 
+-- ---- and by a line: `Says` is the text of the duty's values
+module _ {D V : Type 0} (G : Duty D V) (K : Same V) (Says : List ℕ → V → Type 0) (agreed : V → Agreed) (running : Controller Table D V → Running) where
+  -- the controller c is offered the value that the fields say
+  abbrev pub Offered : Controller Table D V → List (List ℕ) → Result Reply Fault → Controller Table D V → Type 0
+  Offered c fs r c' = (a : Result V FieldFault) × Read (OfferForm Says) fs a × OfferRead G K agreed running a c r c'
+
+  abbrev pub OffersTo : Controller Table D V → List (List ℕ) → Yard → Result Reply Fault → Yard → Type 0
+  OffersTo c fs y r y' = (c' : Controller Table D V) × Offered c fs r c' × Driven G K agreed running c' y r y'
+
+  -- the controller c hears the words that the fields say
   abbrev pub RowHeard : Controller Table D V → List (List ℕ) → Result Reply Fault → Controller Table D V → Type 0
-  RowHeard c fs r c' = (a : Result (List (Option V)) FieldFault) × Read (SayWords Says) fs a × RowRead a c r c'
+  RowHeard c fs r c' = (a : Result (List (Option V)) FieldFault) × Read (SayWords Says) fs a × RowRead G K agreed running a c r c'
 
   abbrev pub HearsBy : Controller Table D V → List (List ℕ) → Yard → Result Reply Fault → Yard → Type 0
-  HearsBy c fs y r y' = (c' : Controller Table D V) × RowHeard c fs r c' × Driven c' y r y'
+  HearsBy c fs y r y' = (c' : Controller Table D V) × RowHeard c fs r c' × Driven G K agreed running c' y r y'
 
 -- ---- `plans` and `board`: a controller on the sealed table, in place of any that stood
 abbrev pub OpensPlans : Yard → List (List ℕ) → Result Reply Fault → Yard → Type 0
 OpensPlans y fs r y' =
     Needs y.table (λ t. ReadsThen PlansForm fs (λ said y r y'.
-    (m : Result PlanBook SettingsRefusal) × books.Made said.0 m × OpensOn book_duty plan_kind PlanText Agreeds.Plan Runnings.Plans t said.1 m y r y')) y r y'
+    (m : Result PlanBook SettingsRefusal) × books.Made said.0 m × OpensOn book_duty plan_kind Agreeds.Plan Runnings.Plans t said.1 m y r y')) y r y'
 
 abbrev pub OpensBoard : Yard → List (List ℕ) → Result Reply Fault → Yard → Type 0
 OpensBoard y fs r y' =
     Needs y.table (λ t. ReadsThen BoardForm fs (λ said y r y'.
-    (m : Result Board SettingsRefusal) × boards.Made (record { bays = said.0; feed = said.1 }) m × OpensOn board_duty grant_kind GrantText Agreeds.Grant Runnings.Board t said.2 m y r y')) y r y'
+    (m : Result Board SettingsRefusal) × boards.Made (record { bays = said.0; feed = said.1 }) m × OpensOn board_duty grant_kind Agreeds.Grant Runnings.Board t said.2 m y r y')) y r y'
 
 -- ---- `offer` and `hear`, by the controller that stands
 abbrev pub OffersWith : List (List ℕ) → Running → Yard → Result Reply Fault → Yard → Type 0

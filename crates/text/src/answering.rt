@@ -67,10 +67,8 @@ impl Yard {
     pub fn take_line(&mut self, line: &[u8]) -> Option<Result<Reply, Refusal>>
         ensures { TakesLine self.old line.now result self.new }
     {
-        match self.count_and_obey(line)? {
-            (_, Ok(reply)) => Some(Ok(reply)),
-            (line, Err(fault)) => Some(Err(Refusal { line, fault })),
-        }
+        let (line, came) = self.count_and_obey(line)?;
+        Some(came.map_err(|fault| Refusal { line, fault }))
     }
 
     /// Does what the next line says, and answers it in at most 64 bytes. After 1,000,000 lines nothing is done, and the answer has no

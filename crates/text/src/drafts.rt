@@ -1,16 +1,16 @@
 //! The lines that make a draft and seal it.
-ghost use Rattle.fields.specs.Fields.{left};
 ghost use Rattle.text.specs.Drafting.{Begins, Adds, Seals};
 
 use crate::yards::Yard;
 use answers::{Fault, Reply};
+use fields::Fields;
 use lines::{read_controllers, read_seal, read_set};
 use survivor::{Draft, DraftRefusal, Table};
 
 impl Yard {
     /// `controllers`: begins anew, with a draft and nothing else.
-    pub(crate) fn begin(&mut self, rest: Option<&[u8]>) -> Result<Reply, Fault>
-        ensures { Begins self.old (left rest.entry) result self.new }
+    pub(crate) fn begin(&mut self, rest: Fields<'_>) -> Result<Reply, Fault>
+        ensures { Begins self.old rest.entry result self.new }
     {
         let n = read_controllers(rest)?;
         let draft = Draft::new(n)?;
@@ -21,27 +21,21 @@ impl Yard {
     }
 
     /// `set`: takes a set into the draft.
-    pub(crate) fn add(&mut self, rest: Option<&[u8]>) -> Result<Reply, Fault>
-        ensures { Adds self.old (left rest.entry) result self.new }
+    pub(crate) fn add(&mut self, rest: Fields<'_>) -> Result<Reply, Fault>
+        ensures { Adds self.old rest.entry result self.new }
     {
-        let Some(mut draft) = self.draft else {
-            return Err(Fault::Absent);
-        };
-        let Some(set) = read_set(rest)? else {
-            return Err(Fault::Draft(DraftRefusal::EmptyOrOutside));
-        };
+        let mut draft = self.draft.ok_or(Fault::Absent)?;
+        let set = read_set(rest)?.ok_or(DraftRefusal::EmptyOrOutside)?;
         draft.add(set)?;
         self.draft = Some(draft);
         Ok(Reply::Done)
     }
 
     /// `seal`: seals the draft into the yard's table.
-    pub(crate) fn seal(&mut self, rest: Option<&[u8]>) -> Result<Reply, Fault>
-        ensures { Seals self.old (left rest.entry) result self.new }
+    pub(crate) fn seal(&mut self, rest: Fields<'_>) -> Result<Reply, Fault>
+        ensures { Seals self.old rest.entry result self.new }
     {
-        let Some(draft) = self.draft else {
-            return Err(Fault::Absent);
-        };
+        let draft = self.draft.ok_or(Fault::Absent)?;
         read_seal(rest)?;
         let mut table = Table::new();
         draft.seal(&mut table)?;

@@ -5,6 +5,7 @@
 mod answering;
 mod controllers;
 mod drafts;
+mod driven;
 mod yards;
 
 pub use yards::Yard;

@@ -1,6 +1,9 @@
 ghost use Rattle.std.specs.Prelude.{◌≡◌};
 ghost use Rattle.threshold.specs.Refusals.{number};
 
+use std::error::Error;
+use std::fmt;
+
 /// Why a call was refused.
 #[derive(Clone, Copy, PartialEq, Eq, Debug)]
 pub enum ThresholdRefusal {
@@ -21,3 +24,16 @@ impl ThresholdRefusal {
         }
     }
 }
+
+impl fmt::Display for ThresholdRefusal {
+    fn fmt<W: fmt::Write>(&self, f: &mut fmt::Formatter<W>) -> fmt::Result {
+        f.write_str(match self {
+            ThresholdRefusal::YardSize => "a yard has 1 to 16 controllers",
+            ThresholdRefusal::TooManyFaults => {
+                "three times the fault number is the number of controllers or more"
+            }
+        })
+    }
+}
+
+impl Error for ThresholdRefusal {}

@@ -1,111 +1,80 @@
-//! The line that is being read, and the answers that wait to be written.
-ghost use Rattle.std.specs.Prelude.{◌≡◌, ◌+◌, ◌<◌, ◌≤◌, [], ◌∷◌, ◌++◌, length, take, nat_lt, nat_le};
+//! Bytes that are kept until they are used: the line that is being read, and the answers that wait to be written.
+ghost use Rattle.std.specs.Prelude.{◌≡◌, ℕ, ◌+◌, ◌<◌, ◌≤◌, List, [], ◌∷◌, ◌++◌, length, take, nat_lt, nat_le};
+
+use arrayvec::ArrayVec;
+use std::marker::Model;
 
 /// How many bytes are read or written at a time.
 pub const BLOCK: usize = 65536;
 
-/// The line that is being read. Of a line that is too long 257 bytes are kept, which is as much too long.
+/// Up to `N` bytes, seen as the list of them.
 #[derive(Drop)]
-pub struct Line {
-    bytes: [u8; 257],
-    len: usize,
-    ghost within: { len ≤ 257 },
+pub struct Kept<const N: usize> {
+    bytes: ArrayVec<u8, N>,
 }
 
-impl Line {
-    /// A line of which nothing was read.
-    pub fn new() -> Line
-        ensures { take result.len result.bytes ≡ [] }
-    {
-        Line {
-            bytes: [0; 257],
-            len: 0,
-        }
-    }
-
-    /// Whether a byte was read.
-    pub fn has_begun(&self) -> bool
-        ensures { result ≡ nat_lt 0 (length (take self.now.len self.now.bytes)) }
-    {
-        self.len > 0
-    }
-
-    /// The bytes read so far, of which the first 257 are kept.
-    pub fn bytes(&self) -> &[u8]
-        ensures { result.now ≡ take self.now.len self.now.bytes }
-    {
-        &self.bytes[0..self.len]
-    }
-
-    /// Reads a byte. What comes after the first 257 is not kept.
-    pub fn add(&mut self, byte: u8)
-        ensures { take self.new.len self.new.bytes ≡ take 257 (take self.old.len self.old.bytes ++ (byte ∷ [])) }
-    {
-        if self.len < 257 {
-            self.bytes[self.len] = byte;
-            self.len += 1;
-        }
-    }
-
-    /// Begins the next line.
-    pub fn clear(&mut self)
-        ensures { take self.new.len self.new.bytes ≡ [] }
-    {
-        self.len = 0;
-    }
-}
+/// The line that is being read. Of a line that is too long 257 bytes are kept, which is as much too long.
+pub type Line = Kept<257>;
 
 /// Answers that wait to be written.
-#[derive(Drop)]
-pub struct Answers {
-    bytes: [u8; BLOCK],
-    // how many of them are taken up
-    filled: usize,
-    ghost within: { filled ≤ 65536 },
+pub type Answers = Kept<BLOCK>;
+
+impl<const N: usize> Model for Kept<N> {
+    ghost Value = { List ℕ };
+
+    ghost view = { λ k. k.bytes.items };
 }
 
-impl Answers {
-    /// No answers.
-    pub fn new() -> Answers
-        ensures { take result.filled result.bytes ≡ [] }
+impl<const N: usize> Kept<N> {
+    /// No bytes.
+    pub fn new() -> Kept<N>
+        ensures { result ≡ [] }
     {
-        Answers {
-            bytes: [0; BLOCK],
-            filled: 0,
+        Kept {
+            bytes: ArrayVec::new(),
         }
     }
 
-    /// Whether another answer, which has at most 64 bytes, has room.
-    pub fn has_room(&self) -> bool
-        ensures { result ≡ nat_le (length (take self.now.filled self.now.bytes) + 64) 65536 }
+    /// Whether there is a byte.
+    pub fn has_begun(&self) -> bool
+        ensures { result ≡ nat_lt 0 (length self.now) }
     {
-        self.filled <= BLOCK - 64
+        !self.bytes.is_empty()
     }
 
-    /// The answers, one after another.
+    /// Whether so many bytes more have room.
+    pub fn has_room(&self, more: usize) -> bool
+        ensures { result ≡ nat_le (length self.now + more) N }
+    {
+        more <= self.bytes.remaining_capacity()
+    }
+
+    /// The bytes, in their order.
     pub fn bytes(&self) -> &[u8]
-        ensures { result.now ≡ take self.now.filled self.now.bytes }
+        ensures { result.now ≡ self.now }
     {
-        &self.bytes[0..self.filled]
+        self.bytes.as_slice()
     }
 
-    /// Adds an answer, if it has room.
-    pub fn add(&mut self, answer: &[u8])
-        ensures room { self.old.filled + length answer.now ≤ 65536 → take self.new.filled self.new.bytes ≡ take self.old.filled self.old.bytes ++ answer.now }
-        ensures full { 65536 < self.old.filled + length answer.now → self.new ≡ self.old }
+    /// Keeps a byte more, if it is among the first `N`.
+    pub fn push(&mut self, byte: u8)
+        ensures { self.new ≡ take N (self.old ++ byte ∷ []) }
     {
-        let at = self.filled;
-        let n = answer.len();
-        if n <= BLOCK - at {
-            self.bytes[at..at + n].copy_from_slice(answer);
-            self.filled = at + n;
-        }
+        let _ = self.bytes.try_push(byte);
     }
 
-    /// Lets go what was written.
+    /// Keeps bytes more, if all of them have room.
+    pub fn add(&mut self, more: &[u8])
+        ensures room { length self.old + length more.now ≤ N → self.new ≡ self.old ++ more.now }
+        ensures full { N < length self.old + length more.now → self.new ≡ self.old }
+    {
+        let _ = self.bytes.try_extend_from_slice(more);
+    }
+
+    /// Lets the bytes go.
     pub fn clear(&mut self)
-        ensures { take self.new.filled self.new.bytes ≡ [] }
+        ensures { self.new ≡ [] }
     {
-        self.filled = 0;
+        self.bytes.clear();
     }
 }

@@ -12,56 +12,82 @@ use std::io;
 use std::io::{Read, Write};
 use text::Yard;
 
-/// Answers the line that has been read, and begins the next one. Answers that leave no room are written first.
-fn answer(
-    yard: &mut Yard,
-    line: &mut Line,
-    answers: &mut Answers,
-    output: &mut impl Write,
-) -> io::Result<()> {
-    let reply = yard.answer(line.bytes());
-    line.clear();
-    if !answers.has_room() {
-        write_out(answers, output)?;
-    }
-    answers.add(reply.as_bytes());
-    Ok(())
+/// The most bytes that an answer has.
+const ANSWER: usize = 64;
+
+/// A text that is being answered: its yard, the line that is being read, and the answers that wait to be written.
+#[derive(Drop)]
+struct Session<'a, W> {
+    yard: Yard,
+    line: Line,
+    answers: Answers,
+    output: &'a mut W,
 }
 
-/// Writes the answers that wait.
-fn write_out(answers: &mut Answers, output: &mut impl Write) -> io::Result<()> {
-    output.write_all(answers.bytes())?;
-    answers.clear();
-    Ok(())
+impl<'a, W: Write> Session<'a, W> {
+    fn new(output: &'a mut W) -> Session<'a, W> {
+        Session {
+            yard: Yard::new(),
+            line: Line::new(),
+            answers: Answers::new(),
+            output,
+        }
+    }
+
+    /// Reads a block of the text, and answers the lines that end in it.
+    fn read(&mut self, block: &[u8]) -> io::Result<()> {
+        for byte in block {
+            if *byte == b'\n' {
+                self.answer()?;
+            } else {
+                self.line.push(*byte);
+            }
+        }
+        self.write_out()
+    }
+
+    /// Ends the text, whose last line may lack its line feed.
+    fn end(&mut self) -> io::Result<()> {
+        if self.line.has_begun() {
+            self.answer()?;
+        }
+        self.write_out()
+    }
+
+    /// Answers the line that has been read, and begins the next one. Answers that leave no room are written first.
+    fn answer(&mut self) -> io::Result<()> {
+        let answer = self.yard.answer(self.line.bytes());
+        self.line.clear();
+        if !self.answers.has_room(ANSWER) {
+            self.write_out()?;
+        }
+        self.answers.add(answer.as_bytes());
+        Ok(())
+    }
+
+    /// Writes the answers that wait.
+    fn write_out(&mut self) -> io::Result<()> {
+        self.output.write_all(self.answers.bytes())?;
+        self.answers.clear();
+        Ok(())
+    }
 }
 
 /// Answers the lines of the input, until it ends or the run is over.
 fn run(input: &mut impl Read, output: &mut impl Write) -> io::Result<()> {
     let mut block = [0u8; BLOCK];
-    let mut yard = Yard::new();
-    let mut line = Line::new();
-    let mut answers = Answers::new();
+    let mut session = Session::new(output);
     for _ in 0..u64::MAX {
         let got = input.read(&mut block)?;
         if got == 0 {
             break;
         }
-        for byte in &block[0..got] {
-            if *byte == b'\n' {
-                answer(&mut yard, &mut line, &mut answers, output)?;
-                if yard.is_over() {
-                    return write_out(&mut answers, output);
-                }
-            } else {
-                line.add(*byte);
-            }
+        session.read(&block[..got])?;
+        if session.yard.is_over() {
+            break;
         }
-        write_out(&mut answers, output)?;
     }
-    if line.has_begun() {
-        answer(&mut yard, &mut line, &mut answers, output)?;
-    }
-    write_out(&mut answers, output)
+    session.end()
 }
 
 fn main(rt: HostRuntime) -> io::Result<()> {

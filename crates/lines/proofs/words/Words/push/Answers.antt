@@ -1,10 +1,5 @@
-use Rattle.std.proofs.Common.{refl, arith}
-use Rattle.lines.proofs.WordRuns.{push_items}
+use Rattle.lines.proofs.WordRuns.{pushed}
 use Rattle.lines.proofs.words.Words.push.Goals as goal
 
-pub returns-then-self-lt17 : goal.returns-then-self-lt17
-returns-then-self-lt17 g c =
-    record {
-      room = λ lt. (push_items c.args.self.now.items c.args.self.now.len c.args.word (omega arith) (omega arith), refl);
-      full = λ ge. absurd (omega arith);
-    }
+pub returns : goal.returns
+returns g c = rw (← c.self.view_is) (pushed _ _ _ _ (λ ok. c.try_push.ensures.variant.0 ok) c.try_push.ensures.ok c.try_push.ensures.full c.try_push.ensures.err)
