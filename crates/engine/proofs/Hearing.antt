@@ -22,21 +22,21 @@ pub same_but_slot : {S D V : Type 0} (c c' : Controller S D V) (slot : Slot V) �
 same_but_slot c c' slot e = (ap (λ x. x.structure) e, ap (λ x. x.pending) e, ap (λ x. x.duty) e)
 
 module _ {S D V : Type 0} (M : Structure S) (G : Duty D V) (K : Same V) (c c' : Controller S D V) (words : List (Option V)) (row : Row S D V M G K)
-    (parts : (row.structure.now ≡ c.structure) × (row.duty.now ≡ c.duty) × (row.words.now ≡ words) × Whole M row)
+    (parts : (row.structure.now ≡ c.structure) × (row.duty.now ≡ c.duty) × (row.words.now ≡ words) × Whole row)
     (structure : c'.structure ≡ c.structure) (pending : c'.pending ≡ c.pending) where
   -- the row is that of the controller's own structure, duty and words
-  given : (s s' : Stage) → stage_of K c ≡ s → s' ≡ next (meaning_of M row) s (heard_row G K row) → next (runs_on M c) (stage_of K c) (heard (fits_on G c) (codes K words)) ≡ s'
+  given : (s s' : Stage) → stage_of K c ≡ s → s' ≡ next (meaning_of row) s (heard_row row) → next (runs_on M c) (stage_of K c) (heard (fits_on G c) (codes K words)) ≡ s'
   given s s' e f =
       ap (λ u. next (runs_on M c) u (heard (fits_on G c) (codes K words))) e
       ∙ ap (λ u. next (M.meaning u) s (heard (fits_on G c) (codes K words))) (sym parts.0)
-      ∙ ap (λ u. next (meaning_of M row) s (heard (fits_in G u) (codes K words))) (sym parts.1)
-      ∙ ap (λ u. next (meaning_of M row) s (heard (fits_in G row.duty.now) (codes K u))) (sym parts.2)
+      ∙ ap (λ u. next (meaning_of row) s (heard (fits_in G u) (codes K words))) (sym parts.1)
+      ∙ ap (λ u. next (meaning_of row) s (heard (fits_in G row.duty.now) (codes K u))) (sym parts.2)
       ∙ sym f
 
   whole : length words ≡ (runs_on M c).size
   whole = ap length (sym parts.2) ∙ parts.3 ∙ ap (λ u. (M.meaning u).size) parts.0
 
-  pub hears_moved : (s s' : Stage) (a : Heard V) → stage_of K c ≡ s → s' ≡ next (meaning_of M row) s (heard_row G K row) → Moves M G K c s' a c' → Hears M G K c words (Ok a) c'
+  pub hears_moved : (s s' : Stage) (a : Heard V) → stage_of K c ≡ s → s' ≡ next (meaning_of row) s (heard_row row) → Moves M G K c s' a c' → Hears M G K c words (Ok a) c'
   hears_moved s s' a e f m = record {
     structure = structure;
     pending = pending;
@@ -45,7 +45,7 @@ module _ {S D V : Type 0} (M : Structure S) (G : Duty D V) (K : Same V) (c c' : 
   }
 
   -- a slot that goes on, by the stage that it has then
-  pub hears_round : (slot : Slot V) → slot_stage K slot ≡ after_row M G K row (stage_of K c) → c'.slot ≡ slot → c'.duty ≡ c.duty → (n : ℕ) → n ≡ due (slot_stage K slot) → Hears M G K c words (Ok (Round n)) c'
+  pub hears_round : (slot : Slot V) → slot_stage K slot ≡ after_row row (stage_of K c) → c'.slot ≡ slot → c'.duty ≡ c.duty → (n : ℕ) → n ≡ due (slot_stage K slot) → Hears M G K c words (Ok (Round n)) c'
   hears_round (Poll s) f is same n e = hears_moved _ (poll_stage K s) (Round n) refl f (record { answer = ap Round e; stage = ap (slot_stage K) is; duty = same })
   hears_round (Confirm s) f is same n e = hears_moved _ (confirm_stage K s) (Round n) refl f (record { answer = ap Round e; stage = ap (slot_stage K) is; duty = same })
   hears_round (Lead s) f is same n e = hears_moved _ (lead_stage K s) (Round n) refl f (record { answer = ap Round e; stage = ap (slot_stage K) is; duty = same })

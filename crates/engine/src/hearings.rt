@@ -22,7 +22,7 @@ impl<'a, 'w, S: Structure, D: Duty> Row<'a, 'w, S, D> {
         duty: &'a D,
         words: &'w [Option<D::Value>],
     ) -> Result<Row<'a, 'w, S, D>, RowRefusal>
-        ensures { Checks S.Structure structure.now duty.now words.now result }
+        ensures { Checks structure.now duty.now words.now result }
     {
         if words.len() != structure.size() as usize {
             return Err(RowRefusal::WrongLength);
@@ -36,14 +36,14 @@ impl<'a, 'w, S: Structure, D: Duty> Row<'a, 'w, S, D> {
 
     /// Whether the group of the value is enough. An unfit value counts as nothing, so nobody says it.
     pub(crate) fn has_enough(&self, value: &D::Value) -> bool
-        ensures { result ≡ has_enough (meaning_of S.Structure self.now) (heard_row D.Duty D.Value.Same self.now) (D.Value.Same.code value.now) }
+        ensures { result ≡ has_enough (meaning_of self.now) (heard_row self.now) (D.Value.Same.code value.now) }
     {
         self.duty.fits(value) && self.structure.enough(tally(self.words, value))
     }
 
     /// Whether the value is weighty: the controllers outside its group are not enough.
     fn is_weighty(&self, value: &D::Value) -> bool
-        ensures { result ≡ weighty (meaning_of S.Structure self.now) (heard_row D.Duty D.Value.Same self.now) (D.Value.Same.code value.now) }
+        ensures { result ≡ weighty (meaning_of self.now) (heard_row self.now) (D.Value.Same.code value.now) }
     {
         if !self.duty.fits(value) {
             return false;
@@ -66,21 +66,21 @@ impl<'a, 'w, S: Structure, D: Duty> Row<'a, 'w, S, D> {
 
     /// The value whose group is enough, at the lowest place; or nothing. (The check of lifetimes does not cover this closure in a stage.)
     pub(crate) fn first_enough(&self) -> Option<D::Value>
-        ensures { word_code D.Value.Same result ≡ polled (meaning_of S.Structure self.now) (heard_row D.Duty D.Value.Same self.now) }
+        ensures { word_code D.Value.Same result ≡ polled (meaning_of self.now) (heard_row self.now) }
     {
         self.first(|value| self.has_enough(value))
     }
 
     /// The weighty value at the lowest place, or nothing.
     pub(crate) fn first_weighty(&self) -> Option<D::Value>
-        ensures { word_code D.Value.Same result ≡ first (weighty (meaning_of S.Structure self.now) (heard_row D.Duty D.Value.Same self.now)) (heard_row D.Duty D.Value.Same self.now) }
+        ensures { word_code D.Value.Same result ≡ first (weighty (meaning_of self.now) (heard_row self.now)) (heard_row self.now) }
     {
         self.first(|value| self.is_weighty(value))
     }
 
     /// The word of a controller, or nothing where its value is unfit.
     pub(crate) fn word_of(&self, controller: u8) -> Option<D::Value>
-        ensures { word_code D.Value.Same result ≡ word_at (heard_row D.Duty D.Value.Same self.now) controller }
+        ensures { word_code D.Value.Same result ≡ word_at (heard_row self.now) controller }
     {
         self.words
             .get(controller as usize)?

@@ -76,9 +76,9 @@ impl<V: Same + Drop> Poll<V> {
     pub fn hear<'w, S: Structure, D: Duty<Value = V>>(self, row: &Row<'_, 'w, S, D>) -> Confirm<V>
     where
         V: 'w,
-        ensures stage { confirm_stage V.Same result ≡ after_row S.Structure D.Duty V.Same row.now (poll_stage V.Same self) }
+        ensures stage { confirm_stage V.Same result ≡ after_row row.now (poll_stage V.Same self) }
         ensures same { result.x ≡ self.x }
-        ensures polls { Polls (meaning_of S.Structure row.now) (heard_row D.Duty V.Same row.now) (word_code V.Same result.y) }
+        ensures polls { Polls (meaning_of row.now) (heard_row row.now) (word_code V.Same result.y) }
     {
         Confirm {
             phase: self.phase,
@@ -96,7 +96,7 @@ impl<V: Same + Drop> Poll<V> {
     ) -> Next<V>
     where
         V: 'w,
-        ensures { next_stage V.Same result ≡ after_row S.Structure D.Duty V.Same led.now (after_row S.Structure D.Duty V.Same confirmed.now (after_row S.Structure D.Duty V.Same polled.now (poll_stage V.Same self))) }
+        ensures { next_stage V.Same result ≡ after_row led.now (after_row confirmed.now (after_row polled.now (poll_stage V.Same self))) }
     {
         let confirm = self.hear(polled);
         let lead = confirm.hear(confirmed);
@@ -118,9 +118,9 @@ impl<V: Same + Drop> Confirm<V> {
     pub fn hear<'w, S: Structure, D: Duty<Value = V>>(self, row: &Row<'_, 'w, S, D>) -> Lead<V>
     where
         V: 'w,
-        ensures stage { lead_stage V.Same result ≡ after_row S.Structure D.Duty V.Same row.now (confirm_stage V.Same self) }
-        ensures same { first (weighty (meaning_of S.Structure row.now) (heard_row D.Duty V.Same row.now)) (heard_row D.Duty V.Same row.now) ≡ None → result.z ≡ self.x }
-        ensures confirms { Whole S.Structure row.now → Confirms (meaning_of S.Structure row.now) (heard_row D.Duty V.Same row.now) (V.Same.code self.x) (V.Same.code result.z) result.sure }
+        ensures stage { lead_stage V.Same result ≡ after_row row.now (confirm_stage V.Same self) }
+        ensures same { first (weighty (meaning_of row.now) (heard_row row.now)) (heard_row row.now) ≡ None → result.z ≡ self.x }
+        ensures confirms { Whole row.now → Confirms (meaning_of row.now) (heard_row row.now) (V.Same.code self.x) (V.Same.code result.z) result.sure }
     {
         let z = row.first_weighty().unwrap_or(self.x);
         Lead {
@@ -144,10 +144,10 @@ impl<V: Same + Drop> Lead<V> {
     pub fn hear<'w, S: Structure, D: Duty<Value = V>>(self, row: &Row<'_, 'w, S, D>) -> Next<V>
     where
         V: 'w,
-        ensures stage { next_stage V.Same result ≡ after_row S.Structure D.Duty V.Same row.now (lead_stage V.Same self) }
+        ensures stage { next_stage V.Same result ≡ after_row row.now (lead_stage V.Same self) }
         ensures sure { self.sure ≡ true → held result ≡ self.z }
-        ensures nothing { word_at (heard_row D.Duty V.Same row.now) (lead_of (meaning_of S.Structure row.now) self.phase.number) ≡ None → held result ≡ self.z }
-        ensures leads { Leads (meaning_of S.Structure row.now) (heard_row D.Duty V.Same row.now) (V.Same.code self.z) self.sure (lead_of (meaning_of S.Structure row.now) self.phase.number) (V.Same.code (held result)) }
+        ensures nothing { word_at (heard_row row.now) (lead_of (meaning_of row.now) self.phase.number) ≡ None → held result ≡ self.z }
+        ensures leads { Leads (meaning_of row.now) (heard_row row.now) (V.Same.code self.z) self.sure (lead_of (meaning_of row.now) self.phase.number) (V.Same.code (held result)) }
     {
         let x = self.led(row);
         match self.phase.next(row.structure) {
@@ -160,9 +160,9 @@ impl<V: Same + Drop> Lead<V> {
     fn led<'w, S: Structure, D: Duty<Value = V>>(&self, row: &Row<'_, 'w, S, D>) -> V
     where
         V: 'w,
-        ensures value { V.Same.code result ≡ led (meaning_of S.Structure row.now) (V.Same.code self.now.z) self.now.sure (lead_of (meaning_of S.Structure row.now) self.now.phase.number) (heard_row D.Duty V.Same row.now) }
+        ensures value { V.Same.code result ≡ led (meaning_of row.now) (V.Same.code self.now.z) self.now.sure (lead_of (meaning_of row.now) self.now.phase.number) (heard_row row.now) }
         ensures sure { self.now.sure ≡ true → result ≡ self.now.z }
-        ensures nothing { word_at (heard_row D.Duty V.Same row.now) (lead_of (meaning_of S.Structure row.now) self.now.phase.number) ≡ None → result ≡ self.now.z }
+        ensures nothing { word_at (heard_row row.now) (lead_of (meaning_of row.now) self.now.phase.number) ≡ None → result ≡ self.now.z }
     {
         if self.sure {
             return self.z;

@@ -11,7 +11,7 @@ pub returns : goal.returns
 returns g c =
     let K = g.D.Value.Same in
     let row = c.in_ok-row.row in
-    let from = λ (slot : Slot _). after_row g.S.Structure g.D.Duty K row (slot_stage K slot) in
+    let from = λ (slot : Slot _). after_row row (slot_stage K slot) in
     let stage : slot_stage K c.match-replace.self2 ≡ from c.args.self.now.slot = elim c.match-replace.branch [
       | in-Poll w ↦ ap (slot_stage K) w.self2-is ∙ w.hear.ensures.stage ∙ ap from (sym w.in-Poll.is ∙ c.replace.ensures.value)
       | in-Confirm w ↦ ap (slot_stage K) w.self2-is ∙ w.hear-in-Confirm.ensures.stage ∙ ap from (sym w.in-Confirm.is ∙ c.replace.ensures.value)

@@ -10,9 +10,9 @@ pub returns : goal.returns
 returns g c =
     let K = g.D.Value.Same in
     let row = c.args.self.now in
-    let m = meaning_of g.S.Structure row in
+    let m = meaning_of row in
     let fits = fits_in g.D.Duty row.duty.now in
     let words = codes K row.words.now in
-    let test = weighty m (heard_row g.D.Duty K row) in
+    let test = weighty m (heard_row row) in
     c.first.ensures test (search rules)
     ∙ sym (first_heard fits test (unfit_weighty m (g.met.S.Structure.lawful row.structure.now) fits words) words)

@@ -11,8 +11,8 @@ pub returns : goal.returns
 returns g c =
     let K = g.V.Same in
     let row = c.args.row.now in
-    let m = meaning_of g.S.Structure row in
-    let heard = heard_row g.D.Duty K row in
+    let m = meaning_of row in
+    let heard = heard_row row in
     let x = K.code c.args.self.x in
     let words = row.words.now in
     let size : length heard ≡ length words = length_heard (fits_in g.D.Duty row.duty.now) (codes K words) ∙ length_codes K words in
