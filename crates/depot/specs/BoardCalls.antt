@@ -1,19 +1,19 @@
 -- What a board means, and what the calls on it promise.
-use Rattle.std.specs.Prelude.{◌≡◌, ℕ, true, false, List, [], take, Ok, Err, Result}
+use Rattle.std.specs.Prelude.{ℕ, List, Result}
+use Rattle.arrayvec.specs.ArrayVec.{array_vec_len}
 use Rattle.depot.specs.declared.boards.Board.{Board}
 use Rattle.depot.specs.declared.refusals.SettingsRefusal.{SettingsRefusal}
-use Rattle.depot.specs.Refusals.{number, values}
+use Rattle.depot.specs.Making as making
 use Rattle.depot.specs.Bays.{amps_of}
 use Rattle.depot.specs.Boards.{Settings, in_range, new_board}
 
 abbrev pub settings_of : Board → Settings
-settings_of b = record { bays = b.count; feed = b.feed }
+settings_of b = record { bays = array_vec_len b.bays; feed = b.feed }
 
 -- the amps of each of the board's bays, in order
 abbrev pub content_of : Board → List ℕ
-content_of b = amps_of (take b.count b.bays.records)
+content_of b = amps_of b.bays.items
 
 -- with settings in range a new board, else a refusal with 6
 abbrev pub Made : Settings → Result Board SettingsRefusal → Type 0
-Made s (Ok b) = (in_range s ≡ true) × (settings_of b ≡ s) × (content_of b ≡ new_board s)
-Made s (Err e) = (in_range s ≡ false) × (number e ≡ 6) × (values e ≡ [])
+Made = making.Made settings_of content_of in_range new_board

@@ -1,7 +1,7 @@
 -- What holds of a board whatever grants it is given, in whatever order.
-use Rattle.std.specs.Prelude.{◌≡◌, ℕ, ◌≤◌, cond, List, [], ◌∷◌, reverse, length, Ok, Err, sum, Result, ◌==◌, slice_index}
+use Rattle.std.specs.Prelude.{◌≡◌, ℕ, ◌≤◌, if◌then◌else◌, List, [], ◌∷◌, reverse, length, sum, Result, ◌==◌, slice_index}
 use Rattle.duty.specs.Codes.{Code}
-use Rattle.duty.specs.Calls.{Always}
+use Rattle.depot.specs.Making as making
 use Rattle.depot.specs.declared.boards.Board.{Board}
 use Rattle.depot.specs.declared.refusals.SettingsRefusal.{SettingsRefusal}
 use Rattle.depot.specs.Boards.{Settings, bay_of, amps_in, fitting, step}
@@ -10,7 +10,7 @@ use Rattle.depot.specs.BoardCalls.{settings_of, content_of}
 -- the amps of the first of the grants that is for this bay, or 0 where none is
 abbrev pub first_for : ℕ → List Code → ℕ
 first_for bay [] = 0
-first_for bay (grant ∷ grants) = cond (bay_of grant == bay) (amps_in grant) (first_for bay grants)
+first_for bay (grant ∷ grants) = if bay_of grant == bay then amps_in grant else first_for bay grants
 
 -- the amps of the last of the grants that is for this bay, or 0 where none is
 abbrev pub last_for : ℕ → List Code → ℕ
@@ -25,5 +25,4 @@ pub record Kept (s : Settings) (taken : List Code) (amps : List ℕ) : Type 0 wh
 
 -- a new board keeps this for ever
 abbrev pub Lasting : Result Board SettingsRefusal → Type 0
-Lasting (Ok b) = Always settings_of content_of fitting step b (Kept (settings_of b))
-Lasting (Err e) = Unit {0}
+Lasting = making.Lasting settings_of content_of fitting step Kept

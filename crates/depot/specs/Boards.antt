@@ -1,5 +1,5 @@
 -- The board: which grants fit it, and what a grant does to it.
-use Rattle.std.specs.Prelude.{ℕ, Bool, cond, ◌&&◌, List, replicate, sum, nat_le, nat_lt, slice_index, slice_set}
+use Rattle.std.specs.Prelude.{ℕ, Bool, if◌then◌else◌, ◌&&◌, List, replicate, sum, nat_le, nat_lt, slice_index, slice_set}
 use Rattle.duty.specs.Codes.{Code}
 use Rattle.duty.specs.declared.outcomes.Outcome.{Outcome}
 use Rattle.duty.specs.declared.outcomes.Outcome.TheVariants.{Taken, Aside}
@@ -34,4 +34,4 @@ replaced amps grant = slice_set amps (bay_of grant) (amps_in grant)
 
 -- a grant is taken when the bays with its own replaced sum to at most the feed; else it is set aside with 15
 abbrev pub step : Settings → List ℕ → Code → List ℕ × Outcome
-step s amps grant = cond (nat_le (sum (replaced amps grant)) s.feed) (replaced amps grant, Taken) (amps, Aside 15)
+step s amps grant = if nat_le (sum (replaced amps grant)) s.feed then (replaced amps grant, Taken) else (amps, Aside 15)

@@ -1,5 +1,6 @@
 pub mod Refusals
 pub mod Values
+pub mod Making
 pub mod Bays
 pub mod Boards
 pub mod BoardCalls

@@ -1,7 +1,7 @@
 -- What holds of a plan book whatever plans it is given, in whatever order.
-use Rattle.std.specs.Prelude.{◌≡◌, ℕ, List, [], ◌∷◌, reverse, Ok, Err, Result}
+use Rattle.std.specs.Prelude.{◌≡◌, ℕ, List, [], ◌∷◌, reverse, Result}
 use Rattle.duty.specs.Codes.{Code}
-use Rattle.duty.specs.Calls.{Always}
+use Rattle.depot.specs.Making as making
 use Rattle.depot.specs.declared.books.PlanBook.{PlanBook}
 use Rattle.depot.specs.declared.refusals.SettingsRefusal.{SettingsRefusal}
 use Rattle.depot.specs.Plans.{plan_of, fitting, step}
@@ -22,5 +22,4 @@ Kept taken in_force = in_force ≡ last_plan taken
 
 -- a new book keeps this for ever
 abbrev pub Lasting : Result PlanBook SettingsRefusal → Type 0
-Lasting (Ok b) = Always settings_of content_of fitting step b Kept
-Lasting (Err e) = Unit {0}
+Lasting = making.Lasting settings_of content_of fitting step (λ _. Kept)

@@ -8,10 +8,11 @@ ghost use Rattle.depot.specs.BoardCalls.{settings_of, content_of, Made};
 ghost use Rattle.depot.specs.Values.{grant_code};
 ghost use Rattle.depot.specs.BoardLaws.{Lasting};
 
-use crate::bays::{Bay, Bays};
+use crate::bays::{Bay, set_amps};
 use crate::boards::Board;
 use crate::refusals::SettingsRefusal;
 use crate::values::Grant;
+use arrayvec::ArrayVec;
 use duty::{Duty, DutyRefusal, Outcome};
 
 /// The outcome of a grant that would take the bays' sum past the feed.
@@ -26,18 +27,16 @@ impl Board {
         if bays == 0 || bays > 64 || feed > 32_000 {
             return Err(SettingsRefusal::OutOfRange);
         }
-        Ok(Board {
-            count: bays,
-            feed,
-            bays: Bays::new(),
-        })
+        let mut list = ArrayVec::from([Bay { amps: 0 }; 64]);
+        list.truncate(bays as usize);
+        Ok(Board { feed, bays: list })
     }
 
     /// The bays, in order.
     pub fn bays(&self) -> &[Bay]
         ensures { amps_of result.now ≡ content_of self.now }
     {
-        &self.bays.records[0..self.count as usize]
+        self.bays.as_slice()
     }
 
     /// The amps that the bays must not pass together.
@@ -52,11 +51,7 @@ impl Board {
         ensures value { result ≡ sum (content_of self.now) }
         ensures within { result ≤ (settings_of self.now).feed }
     {
-        let mut total = 0;
-        for bay in self.bays() {
-            total += bay.amps;
-        }
-        total
+        self.bays().iter().map(|bay| bay.amps).sum()
     }
 
     /// The amps of all bays together with those of the grant's bay replaced.
@@ -73,7 +68,7 @@ impl Board {
         ensures value { result + grant.now.amps ≡ sum (replaced (content_of self.now) (grant_code grant.now)) }
         ensures within { result ≤ (settings_of self.now).feed }
     {
-        self.total() - self.bays.records[grant.bay as usize].amps
+        self.total() - self.bays[grant.bay as usize].amps
     }
 }
 
@@ -93,7 +88,7 @@ impl Duty for Board {
     ghost step = { grant_step };
 
     fn fits(&self, grant: &Grant) -> bool {
-        grant.bay < self.count && grant.amps <= 1_000
+        (grant.bay as usize) < self.bays.len() && grant.amps <= 1_000
     }
 
     fn take(&mut self, grant: &Grant) -> Result<Outcome, DutyRefusal>
@@ -106,7 +101,7 @@ impl Duty for Board {
         if self.total_with(grant) > self.feed {
             return Ok(PAST_FEED);
         }
-        self.bays.set_amps(grant.bay as usize, grant.amps);
+        set_amps(&mut self.bays, grant.bay as usize, grant.amps);
         Ok(Outcome::Taken)
     }
 }

@@ -1,5 +1,5 @@
 -- Calls of `take` on one duty, one after another.
-use Rattle.std.specs.Prelude.{◌≡◌, Bool, false, cond, List, [], ◌∷◌, map, Ok, Err, Result}
+use Rattle.std.specs.Prelude.{◌≡◌, Bool, false, if◌then◌else◌, List, [], ◌∷◌, map, Ok, Err, Result}
 use Rattle.duty.specs.Codes.{Code}
 use Rattle.duty.specs.declared.outcomes.Outcome.{Outcome}
 use Rattle.duty.specs.declared.refusals.DutyRefusal.{DutyRefusal}
@@ -25,7 +25,7 @@ answers_taken (Err e) = false
 -- the values that were answered as taken, in their order
 abbrev pub taken_in : List Call → List Code
 taken_in [] = []
-taken_in (call ∷ calls) = cond (answers_taken call.answer) (call.code ∷ taken_in calls) (taken_in calls)
+taken_in (call ∷ calls) = if answers_taken call.answer then call.code ∷ taken_in calls else taken_in calls
 
 module _
     {D Settings Content : Type 0}

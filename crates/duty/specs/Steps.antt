@@ -1,5 +1,5 @@
 -- A run of steps: values given to a duty one after another.
-use Rattle.std.specs.Prelude.{Bool, cond, ◌&&◌, List, [], ◌∷◌}
+use Rattle.std.specs.Prelude.{Bool, if◌then◌else◌, ◌&&◌, List, [], ◌∷◌}
 use Rattle.duty.specs.Codes.{Code}
 use Rattle.duty.specs.declared.outcomes.Outcome.{Outcome}
 use Rattle.duty.specs.Outcomes.{is_taken}
@@ -12,7 +12,7 @@ module _
   where
     -- the content after one value; an unfit one changes nothing
     abbrev pub next : Content → Code → Content
-    next c v = cond (fitting s v) (step s c v).0 c
+    next c v = if fitting s v then (step s c v).0 else c
 
     -- whether the value fits and is taken
     abbrev pub takes : Content → Code → Bool
@@ -26,4 +26,4 @@ module _
     -- those of the values that are taken, in their order
     abbrev pub taken : Content → List Code → List Code
     taken c [] = []
-    taken c (v ∷ vs) = cond (takes c v) (v ∷ taken (next c v) vs) (taken (next c v) vs)
+    taken c (v ∷ vs) = if takes c v then v ∷ taken (next c v) vs else taken (next c v) vs

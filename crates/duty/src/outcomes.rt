@@ -7,7 +7,7 @@ ghost use Rattle.duty.specs.Outcomes.{number};
 pub enum Outcome {
     /// The duty took it.
     Taken,
-    /// The duty set it aside, for the reason that has this number.
+    /// The duty set it aside, for the reason that has this number: each duty has reasons of its own, which no enum here could list.
     Aside(u8),
 }
 

@@ -12,9 +12,6 @@ use Rattle.rounds.specs.Rows.{Word, Row, heard_word, heard, says, group}
 use Rattle.rounds.specs.Rounds.{has_enough, weighty}
 use Rattle.rounds.proofs.Words.{heard_fits, says_true}
 use Rattle.rounds.proofs.Groups.{group_heard}
-use Rattle.engine.specs.declared.hearings.Test.{Test}
-use Rattle.engine.specs.declared.hearings.Test.TheVariants.{Enough, Weighty}
-use Rattle.engine.specs.Tests.{passes}
 use Rattle.engine.specs.Words.{codes}
 
 -- the tally of a value that fits is its group in the row as it is heard
@@ -48,7 +45,3 @@ module _ (m : Meaning) (laws : Laws m) (fits : Code → Bool) (row : Row) (v : C
 
   pub unfit_weighty : weighty m (heard fits row) v ≡ false
   unfit_weighty = ap (λ g. not (m.enough (everyone m.size - g))) (unfit_group fits v unfit row) ∙ rw (sub-zero (everyone m.size), laws.all) refl
-
-  pub unfit_fails : (test : Test) → passes test m (heard fits row) v ≡ false
-  unfit_fails Enough = unfit_enough
-  unfit_fails Weighty = unfit_weighty

@@ -1,18 +1,12 @@
--- The lead at a place of the list.
-use Rattle.std.proofs.Common.{◌≡◌, ℕ, zero, suc, ◌<◌, ◌≤◌, true, false, List, [], ◌∷◌, length, get_or, is_some, unwrap_or, refl, arith}
-use Rattle.std.specs.List.{slice_get}
+-- Counting the leads of a list.
+use Rattle.std.proofs.Common.{◌≡◌, ◌+◌, ◌-◌, ◌≤◌, ℕ, zero, suc, List, length, is_some, arith, inl, inr}
+use Rattle.std.specs.List.{slice_get, prefix_len, range_with_len}
+use Rattle.std.proofs.lemmas.Option.{slice_get_cases}
 
-pub nth_or : (xs : List ℕ) (i d : ℕ) → unwrap_or (slice_get xs i) d ≡ get_or xs i d
-nth_or [] i d = refl
-nth_or (x ∷ xs) zero d = refl
-nth_or (x ∷ xs) (suc i) d = nth_or xs i d
-
-pub nth_within : (xs : List ℕ) (i : ℕ) → is_some (slice_get xs i) ≡ true → i < length xs
-nth_within [] i e = absurd (let z : ◌≡◌ {A = ℕ} 0 1 = cc in omega arith)
-nth_within (x ∷ xs) zero e = omega arith
-nth_within (x ∷ xs) (suc i) e = omega (arith, nth_within xs i e)
-
-pub nth_beyond : (xs : List ℕ) (i : ℕ) → is_some (slice_get xs i) ≡ false → length xs ≤ i
-nth_beyond [] i e = omega arith
-nth_beyond (x ∷ xs) zero e = absurd (let z : ◌≡◌ {A = ℕ} 0 1 = cc in omega arith)
-nth_beyond (x ∷ xs) (suc i) e = omega (arith, nth_beyond xs i e)
+-- as many places in a row have a lead as there are leads from place i on
+pub counted : (xs : List ℕ) (i n : ℕ) → length xs ≤ i + n → prefix_len (λ place. is_some (slice_get xs place)) (range_with_len i n) ≡ length xs - i
+counted xs i zero h = omega arith
+counted xs i (suc n) h = elim (slice_get_cases xs i).1 [
+  | inl w ↦ rw w.2 (omega (arith, counted xs (i + 1) n (omega arith), w.1))
+  | inr w ↦ rw w.1 (omega (arith, w.0))
+]

@@ -1,7 +1,9 @@
 -- Words of values, and the words of a row at its places.
-use Rattle.std.proofs.Common.{◌≡◌, ℕ, zero, suc, ◌+◌, ◌<◌, ◌≤◌, List, [], ◌∷◌, length, get_or, drop, Some, None, Option, unwrap_or, sym, refl, ap, ◌∙◌, add-one, arith, drop-cons}
+use Rattle.std.proofs.Common.{◌≡◌, ℕ, zero, suc, ◌+◌, ◌<◌, ◌≤◌, List, [], ◌∷◌, length, get_or, drop, Some, None, Option, unwrap_or, Bor, Bool, true, false, cond, sym, refl, ap, ◌∙◌, add-one, arith, drop-cons}
+use Rattle.duty.specs.Codes.{Code}
 use Rattle.duty.specs.declared.values.Same.{Ghosts as Same}
-use Rattle.rounds.specs.Rows.{Row, word_at}
+use Rattle.std.specs.Option.{option_copied, MatchOption}
+use Rattle.rounds.specs.Rows.{Row, word_at, heard_word, same_code, says}
 use Rattle.rounds.specs.Rounds.{or_else}
 use Rattle.engine.specs.Words.{word_code, codes}
 
@@ -33,3 +35,19 @@ module _ {V : Type 0} (K : Same V) where
   pub nothing_or : (word : Option V) (v : V) → word_code K word ≡ None → unwrap_or word v ≡ v
   nothing_or None v e = refl
   nothing_or (Some w) v e = absurd (let z : ◌≡◌ {A = ℕ} 0 1 = cc in omega arith)
+
+  -- the word is the value where it has one that `P` says so of
+  pub when_said : (value : V) (word : Option V) (o : Option (Bor V)) (r : Bool) {P : Bor V → Type 0} → option_copied o ≡ word → MatchOption o (r ≡ false) P →
+      ((x : Bor V) → P x → r ≡ same_code (K.code value) (K.code x.now)) → r ≡ says (K.code value) (word_code K word)
+  when_said value word None r e h k = rw (← e) h
+  when_said value word (Some x) r e h k = rw (← e) (k x h)
+
+  -- the word heard is the word itself where its value fits, and nothing else
+  pub when_heard : (fits : Code → Bool) (word r : Option V) {P : V → Type 0} → MatchOption word (r ≡ None) P →
+      ((x : V) → P x → r ≡ cond (fits (K.code x)) (Some x) None) → word_code K r ≡ heard_word fits (word_code K word)
+  when_heard fits None r h k = rw h
+  when_heard fits (Some x) r h k = rw (k x h) (go (fits (K.code x)))
+    where
+      go : (b : Bool) → word_code K (cond b (Some x) None) ≡ cond b (Some (K.code x)) None
+      go true = refl
+      go false = refl

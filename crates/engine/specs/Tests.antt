@@ -1,12 +1,9 @@
--- What the group of a value is asked for.
-use Rattle.std.specs.Prelude.{Bool}
-use Rattle.structure.specs.Meanings.{Meaning}
+-- Tests of values.
+use Rattle.std.specs.Prelude.{◌≡◌, Bool}
+use Rattle.std.specs.Fn.{Shared}
+use Rattle.std.specs.Borrow.{Bor}
 use Rattle.duty.specs.Codes.{Code}
-use Rattle.rounds.specs.Rows.{Row}
-use Rattle.rounds.specs.Rounds.{has_enough, weighty}
-use Rattle.engine.specs.declared.hearings.Test.{Test}
-use Rattle.engine.specs.declared.hearings.Test.TheVariants.{Enough, Weighty}
 
-abbrev pub passes : Test → Meaning → Row → Code → Bool
-passes Enough m row v = has_enough m row v
-passes Weighty m row v = weighty m row v
+-- each call of f at a value answers what the test says of the value's code
+abbrev pub Tests : {F V : Type 0} → Shared F (Bor V × Unit {0}) Bool → (V → Code) → F → (Code → Bool) → Type 0
+Tests {F} {V} g code f test = (v : Bor V) (b : Bool) → g.post f (v, tt) b → b ≡ test (code v.now)

@@ -1,24 +1,23 @@
 //! A controller, and what it answers. `controlling` has its calls.
 
-use crate::phases::Phase;
+use crate::stages::{Confirm, Lead, Poll};
 use duty::{Duty, DutyRefusal, Outcome};
 use structure::Structure;
 
-/// The round that is due, with the values held.
-#[derive(Clone, Copy)]
-pub(crate) enum Held<V> {
-    Poll { x: V },
-    Confirm { x: V, y: Option<V> },
-    Lead { z: V, sure: bool },
+/// A slot, by the stage at which it stands.
+#[derive(Drop)]
+pub(crate) enum Slot<V> {
+    Poll(Poll<V>),
+    Confirm(Confirm<V>),
+    Lead(Lead<V>),
 }
 
-/// One controller of a yard: the stage at which its slot stands, what it runs on, and the proposal for the next slot.
+/// One controller of a yard: what it runs on, its slot, and the proposal for the next one.
 #[derive(Drop)]
 pub struct Controller<S: Structure, D: Duty> {
     pub(crate) structure: S,
     pub(crate) duty: D,
-    pub(crate) phase: Phase,
-    pub(crate) held: Held<D::Value>,
+    pub(crate) slot: Slot<D::Value>,
     pub(crate) pending: D::Value,
 }
 

@@ -32,10 +32,8 @@ impl Phase {
         ensures { option_map (λ phase. phase.number) result ≡ (if nat_lt (self.number + 1) (length (S.Structure.meaning structure.now).leads) then Some (self.number + 1) else None) }
     {
         let number = self.number + 1;
-        match structure.lead(number as usize) {
-            Some(_) => Some(Phase { number }),
-            None => None,
-        }
+        structure.lead(number as usize)?;
+        Some(Phase { number })
     }
 
     /// The controller that leads the phase.

@@ -18,9 +18,7 @@ pub fn slot_rounds<S: Structure>(structure: &S) -> u8
 fn leads<S: Structure>(structure: &S) -> u8
     ensures { result ≡ length (S.Structure.meaning structure.now).leads }
 {
-    let mut count: u8 = 0;
-    while structure.lead(count as usize).is_some() {
-        count += 1;
-    }
-    count
+    (0..structure.size())
+        .take_while(|place| structure.lead(usize::from(*place)).is_some())
+        .count() as u8
 }

@@ -11,7 +11,6 @@ ghost use Rattle.engine.specs.Words.{word_code};
 ghost use Rattle.engine.specs.Rows.{meaning_of, heard_row, after_row, Whole};
 ghost use Rattle.engine.specs.Stages.{poll_stage, confirm_stage, lead_stage, next_stage, held, closed_value};
 
-use crate::hearings::Test;
 use crate::phases::Phase;
 use crate::rows::Row;
 use duty::{Duty, Same};
@@ -77,14 +76,14 @@ impl<V: Same + Drop> Poll<V> {
     pub fn hear<'w, S: Structure, D: Duty<Value = V>>(self, row: &Row<'_, 'w, S, D>) -> Confirm<V>
     where
         V: 'w,
-        ensures stage { confirm_stage V.Same result ≡ after_row S.Structure D.Duty V.Same row.now (poll_stage V.Same self) }
+        ensures stage { confirm_stage V.Same result ≡ after_row row.now (poll_stage V.Same self) }
         ensures same { result.x ≡ self.x }
-        ensures polls { Polls (meaning_of S.Structure row.now) (heard_row D.Duty V.Same row.now) (word_code V.Same result.y) }
+        ensures polls { Polls (meaning_of row.now) (heard_row row.now) (word_code V.Same result.y) }
     {
         Confirm {
             phase: self.phase,
             x: self.x,
-            y: row.first(Test::Enough),
+            y: row.first_enough(),
         }
     }
 
@@ -97,7 +96,7 @@ impl<V: Same + Drop> Poll<V> {
     ) -> Next<V>
     where
         V: 'w,
-        ensures { next_stage V.Same result ≡ after_row S.Structure D.Duty V.Same led.now (after_row S.Structure D.Duty V.Same confirmed.now (after_row S.Structure D.Duty V.Same polled.now (poll_stage V.Same self))) }
+        ensures { next_stage V.Same result ≡ after_row led.now (after_row confirmed.now (after_row polled.now (poll_stage V.Same self))) }
     {
         let confirm = self.hear(polled);
         let lead = confirm.hear(confirmed);
@@ -119,11 +118,11 @@ impl<V: Same + Drop> Confirm<V> {
     pub fn hear<'w, S: Structure, D: Duty<Value = V>>(self, row: &Row<'_, 'w, S, D>) -> Lead<V>
     where
         V: 'w,
-        ensures stage { lead_stage V.Same result ≡ after_row S.Structure D.Duty V.Same row.now (confirm_stage V.Same self) }
-        ensures same { first (weighty (meaning_of S.Structure row.now) (heard_row D.Duty V.Same row.now)) (heard_row D.Duty V.Same row.now) ≡ None → result.z ≡ self.x }
-        ensures confirms { Whole S.Structure row.now → Confirms (meaning_of S.Structure row.now) (heard_row D.Duty V.Same row.now) (V.Same.code self.x) (V.Same.code result.z) result.sure }
+        ensures stage { lead_stage V.Same result ≡ after_row row.now (confirm_stage V.Same self) }
+        ensures same { first (weighty (meaning_of row.now) (heard_row row.now)) (heard_row row.now) ≡ None → result.z ≡ self.x }
+        ensures confirms { Whole row.now → Confirms (meaning_of row.now) (heard_row row.now) (V.Same.code self.x) (V.Same.code result.z) result.sure }
     {
-        let z = row.first(Test::Weighty).unwrap_or(self.x);
+        let z = row.first_weighty().unwrap_or(self.x);
         Lead {
             phase: self.phase,
             z,
@@ -145,10 +144,10 @@ impl<V: Same + Drop> Lead<V> {
     pub fn hear<'w, S: Structure, D: Duty<Value = V>>(self, row: &Row<'_, 'w, S, D>) -> Next<V>
     where
         V: 'w,
-        ensures stage { next_stage V.Same result ≡ after_row S.Structure D.Duty V.Same row.now (lead_stage V.Same self) }
+        ensures stage { next_stage V.Same result ≡ after_row row.now (lead_stage V.Same self) }
         ensures sure { self.sure ≡ true → held result ≡ self.z }
-        ensures nothing { word_at (heard_row D.Duty V.Same row.now) (lead_of (meaning_of S.Structure row.now) self.phase.number) ≡ None → held result ≡ self.z }
-        ensures leads { Leads (meaning_of S.Structure row.now) (heard_row D.Duty V.Same row.now) (V.Same.code self.z) self.sure (lead_of (meaning_of S.Structure row.now) self.phase.number) (V.Same.code (held result)) }
+        ensures nothing { word_at (heard_row row.now) (lead_of (meaning_of row.now) self.phase.number) ≡ None → held result ≡ self.z }
+        ensures leads { Leads (meaning_of row.now) (heard_row row.now) (V.Same.code self.z) self.sure (lead_of (meaning_of row.now) self.phase.number) (V.Same.code (held result)) }
     {
         let x = self.led(row);
         match self.phase.next(row.structure) {
@@ -161,9 +160,9 @@ impl<V: Same + Drop> Lead<V> {
     fn led<'w, S: Structure, D: Duty<Value = V>>(&self, row: &Row<'_, 'w, S, D>) -> V
     where
         V: 'w,
-        ensures value { V.Same.code result ≡ led (meaning_of S.Structure row.now) (V.Same.code self.now.z) self.now.sure (lead_of (meaning_of S.Structure row.now) self.now.phase.number) (heard_row D.Duty V.Same row.now) }
+        ensures value { V.Same.code result ≡ led (meaning_of row.now) (V.Same.code self.now.z) self.now.sure (lead_of (meaning_of row.now) self.now.phase.number) (heard_row row.now) }
         ensures sure { self.now.sure ≡ true → result ≡ self.now.z }
-        ensures nothing { word_at (heard_row D.Duty V.Same row.now) (lead_of (meaning_of S.Structure row.now) self.now.phase.number) ≡ None → result ≡ self.now.z }
+        ensures nothing { word_at (heard_row row.now) (lead_of (meaning_of row.now) self.now.phase.number) ≡ None → result ≡ self.now.z }
     {
         if self.sure {
             return self.z;

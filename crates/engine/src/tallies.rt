@@ -11,8 +11,8 @@ use structure::Group;
 pub fn tally<V: Same>(words: &[Option<V>], value: &V) -> Group
     ensures { result ≡ group (V.Same.code value.now) (codes V.Same (take 16 words.now)) }
 {
+    let counted = &words[..words.len().min(16)];
     let mut group = 0;
-    let counted = first_sixteen(words);
     for (i, word) in counted.iter().enumerate() {
         if says(word, value) {
             group |= alone(i);
@@ -21,21 +21,11 @@ pub fn tally<V: Same>(words: &[Option<V>], value: &V) -> Group
     group
 }
 
-/// The words of the first 16 places.
-fn first_sixteen<V>(words: &[Option<V>]) -> &[Option<V>]
-    ensures { result.now ≡ take 16 words.now }
-{
-    &words[0..words.len().min(16)]
-}
-
 /// Whether the word is the value.
 fn says<V: Same>(word: &Option<V>, value: &V) -> bool
     ensures { result ≡ says (V.Same.code value.now) (word_code V.Same word.now) }
 {
-    match word {
-        Some(said) => value.same(said),
-        None => false,
-    }
+    word.as_ref().is_some_and(|said| value.same(said))
 }
 
 /// The group of one controller alone.

@@ -8,14 +8,14 @@ ghost use Rattle.meter.specs.Readings.{fitting as reading_fits, step as reading_
 use duty::{Duty, DutyRefusal, Outcome, Same};
 
 /// A meter reading, in kWh.
-#[derive(Clone, Copy)]
+#[derive(Clone, Copy, PartialEq, Eq, Debug)]
 pub struct Reading(pub u32);
 
 impl Same for Reading {
     ghost code = { λ r. r.0 ∷ [] };
 
     fn same(&self, other: &Reading) -> bool {
-        self.0 == other.0
+        self == other
     }
 }
 

@@ -1,5 +1,5 @@
 -- Groups of controllers.
-use Rattle.std.specs.Prelude.{◌≡◌, ℕ, zero, suc, ◌+◌, ◌-◌, ◌/◌, ◌%◌, ◌^◌, ◌<◌, Bool, true, false, cond, not, ◌&&◌, ◌||◌, ◌⊎◌, List, [], ◌∷◌, ◌++◌, ◌==◌, nat_le}
+use Rattle.std.specs.Prelude.{◌≡◌, ℕ, zero, suc, ◌+◌, ◌-◌, ◌/◌, ◌%◌, ◌^◌, ◌<◌, Bool, true, false, if◌then◌else◌, not, ◌&&◌, ◌||◌, ◌⊎◌, List, [], ◌∷◌, ◌++◌, ◌==◌, nat_le}
 
 -- bit i of a number
 abbrev pub bit : ℕ → ℕ → ℕ
@@ -56,7 +56,7 @@ shares (suc i) a b c = (has a i && (has b i && has c i)) || shares i a b c
 -- the controllers of a group, of the first n, by rising number
 abbrev pub members : ℕ → ℕ → List ℕ
 members zero g = []
-members (suc i) g = cond (has g i) (members i g ++ i ∷ []) (members i g)
+members (suc i) g = if has g i then members i g ++ i ∷ [] else members i g
 
 -- how many controllers, of the first n, belong to a group
 abbrev pub count : ℕ → ℕ → ℕ

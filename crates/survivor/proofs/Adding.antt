@@ -1,6 +1,8 @@
 -- The search for a comparable set, what it says, and what one set more keeps.
-use Rattle.std.proofs.Common.{◌≡◌, ℕ, zero, suc, ◌+◌, ◌-◌, ◌/◌, ◌^◌, ◌<◌, ◌≤◌, Bool, true, false, cond, not, eqb, leb, ◌⊎◌, List, [], ◌∷◌, ◌++◌, length, get_or, take, drop, set, Some, None, Decides, Option, sym, refl, ◌∙◌, inl, inr, arith}
+use Rattle.std.proofs.Common.{◌≡◌, ℕ, zero, suc, ◌+◌, ◌-◌, ◌/◌, ◌^◌, ◌<◌, ◌≤◌, Bool, true, false, cond, not, eqb, leb, ◌⊎◌, List, [], ◌∷◌, ◌++◌, length, get_or, take, drop, set, Some, None, Decides, Option, sym, refl, ◌∙◌, inl, inr, add-one, arith}
 use native.Mathlib.Nat.{div-eq_of_lt}
+use Rattle.std.specs.Option.{option_map, MatchOption}
+use Rattle.std.specs.List.{AllWithin, HoldsAt}
 use Rattle.std.proofs.lemmas.Nat.{pow_pos, le-div}
 use Rattle.std.proofs.lemmas.List.{at_drop_more, at_drop_all, get_or_append_left, get_or_push, length_push, take_more_set}
 use Rattle.std.proofs.lemmas.Bool.{cases_eq, cases_lt, both_ways, or_cases, or_parts, eqb-true, eqb-false, ne_eqb, leb-true, leb-false, le-leb, lt-leb}
@@ -30,6 +32,21 @@ module _ (n : ℕ) (xs : List ℕ) (s i : ℕ) where
 
   pub found_none : length xs ≤ i → Left n xs s i → None ≡ first_comparable n 1 xs s
   found_none l h = sym (at_drop_all (λ ys. first_comparable n (i + 1) ys s) xs i l) ∙ h
+
+-- whether the sets x and s, both of whatever yard, are comparable
+abbrev pub Compared : ℕ → Bool → ℕ → Type 0
+Compared s b x = (n : ℕ) → x < 2 ^ n → s < 2 ^ n → b ≡ comparable n x s
+
+module _ (n : ℕ) (xs : List ℕ) (s : ℕ) (inside : Inside n xs) (below : s < 2 ^ n) where
+  -- nothing is found where no set before i is comparable
+  upto : (i : ℕ) → i ≤ length xs → AllWithin (Compared s false) xs 0 i → Left n xs s i
+  upto zero l f = refl
+  upto (suc i) l f = rw (← add-one i) (left_more n xs s i (omega arith) (upto i (omega arith) (λ k d low high. f k d low (omega arith))) (sym (f i 0 (omega arith) (omega arith) n (inside i (omega arith)) below)))
+
+  pub first_so : (p r : Option ℕ) → MatchOption p (AllWithin (Compared s false) xs 0 (length xs)) (λ i. (i < length xs) × HoldsAt (Compared s true) xs i × AllWithin (Compared s false) xs 0 i) →
+      r ≡ option_map (λ i. i + 1) p → r ≡ first_comparable n 1 xs s
+  first_so None r f e = e ∙ found_none n xs s (length xs) (omega arith) (upto (length xs) (omega arith) f)
+  first_so (Some i) r (l, h, f) e = e ∙ found_here n xs s i l (upto i (omega arith) f) (sym (h 0 n (inside i l) below))
 
 -- ---- what the search says
 module _ (n s : ℕ) where

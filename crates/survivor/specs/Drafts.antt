@@ -1,7 +1,7 @@
 -- Drafts: what making one and adding a set answer, as a rule to work out and in words.
 --
 -- `n` is the number of controllers of the yard, `sets` the sets of the draft, `s` the set to be added.
-use Rattle.std.specs.Prelude.{◌≡◌, ℕ, ◌+◌, ◌-◌, ◌^◌, ◌<◌, ◌≤◌, Bool, cond, ◌||◌, ◌⊎◌, List, [], ◌∷◌, ◌++◌, length, take, Some, None, Ok, Err, Option, Result, ◌==◌, nat_le, slice_index}
+use Rattle.std.specs.Prelude.{◌≡◌, ℕ, ◌+◌, ◌-◌, ◌^◌, ◌<◌, ◌≤◌, Bool, if◌then◌else◌, ◌||◌, ◌⊎◌, List, [], ◌∷◌, ◌++◌, length, take, Some, None, Ok, Err, Option, Result, ◌==◌, nat_le, slice_index}
 use Rattle.structure.specs.Groups.{◌∈◌, Within, within, yard_size, NoYardSize}
 use Rattle.survivor.specs.declared.refusals.DraftRefusal.{DraftRefusal}
 use Rattle.survivor.specs.declared.refusals.DraftRefusal.TheVariants.{YardSize, EmptyOrOutside, Full, Comparable, NoSet, NoneShared}
@@ -25,7 +25,7 @@ at_place sets p = slice_index sets (p - 1)
 -- ---- making a draft
 -- refused with 1 where n is no yard's size
 abbrev pub making : ℕ → List ℕ
-making n = cond (yard_size n) [] (1 ∷ [])
+making n = if yard_size n then [] else 1 ∷ []
 
 -- in words: why a draft is not made
 abbrev pub AgainstMaking : ℕ → DraftRefusal → Type 0
@@ -53,7 +53,7 @@ comparable n a b = within n a b || within n b a
 -- the lowest place of a set comparable with s, where the first of `sets` has place p
 abbrev pub first_comparable : ℕ → ℕ → List ℕ → ℕ → Option ℕ
 first_comparable n p [] s = None
-first_comparable n p (x ∷ xs) s = cond (comparable n x s) (Some p) (first_comparable n (p + 1) xs s)
+first_comparable n p (x ∷ xs) s = if comparable n x s then Some p else first_comparable n (p + 1) xs s
 
 -- 12 and the place, if there is one
 abbrev pub refused_at : Option ℕ → List ℕ
@@ -62,7 +62,7 @@ refused_at (Some p) = 12 ∷ p ∷ []
 
 -- refused with 2 where misplaced, then with 11 where there are 64 sets, then with 12 and the lowest place of a comparable set
 abbrev pub adding : ℕ → List ℕ → ℕ → List ℕ
-adding n sets s = cond (misplaced n s) (2 ∷ []) (cond (nat_le 64 (length sets)) (11 ∷ []) (refused_at (first_comparable n 1 sets s)))
+adding n sets s = if misplaced n s then 2 ∷ [] else if nat_le 64 (length sets) then 11 ∷ [] else refused_at (first_comparable n 1 sets s)
 
 -- In words. The set names a controller, and none outside the yard.
 abbrev pub WellPlaced : ℕ → ℕ → Type 0

@@ -1,8 +1,9 @@
 -- A draft as a wiring: what the tests on its masks say of its sets.
-use Rattle.std.specs.Prelude.{◌≡◌, ℕ, ◌+◌, ◌-◌, ◌^◌, ◌<◌, ◌≤◌, Bool, true, false, ◌↔◌, List, length, Some, None, bit_and, count_ones, slice_index, refl}
+use Rattle.std.specs.Prelude.{◌≡◌, ℕ, ◌+◌, ◌-◌, ◌^◌, ◌<◌, ◌≤◌, Bool, true, false, ◌↔◌, List, length, Some, None, bit_and, count_ones, slice_index, refl, MatchBool}
+use Rattle.std.specs.List.{AllWithin, HoldsAt}
 use Rattle.std.proofs.Common.{sym, subst, inl, inr, add-one, arith}
 use Rattle.std.proofs.Math.Logic.{∥∥₁_elim}
-use Rattle.std.proofs.lemmas.Bool.{cases_Bool, false≢true, eq-eqb, ne_eqb}
+use Rattle.std.proofs.lemmas.Bool.{cases_Bool, both_ways, false≢true, eq-eqb, ne_eqb}
 use Rattle.structure.specs.Groups.{everyone, count, Within, within}
 use Rattle.structure.proofs.Bits.{everyone_below, within_decides, meets_and, and_meets, shares_and, and_shares}
 use Rattle.structure.proofs.Members.{ones_count}
@@ -17,6 +18,9 @@ use Rattle.survivor.specs.Drafts.{size_of, sets_of}
 use Rattle.survivor.specs.Seals.{sealing, NothingShared}
 use Rattle.cores.specs.Sharing.{Inside}
 
+inside_of : (d : Draft) (xs : List ℕ) → xs ≡ sets_of d → Inside (size_of d) xs
+inside_of d xs e = subst (λ v. Inside (size_of d) v) (sym e) d.inside
+
 -- ---- a group is enough, or is not
 module _ (n : ℕ) (sets xs : List ℕ) (g : ℕ) where
   pub enough_here : (j : ℕ) → xs ≡ sets → j < length xs → within n (slice_index xs j) g ≡ true → true ≡ any (λ s. within n s g) sets
@@ -29,6 +33,17 @@ module _ (n : ℕ) (sets xs : List ℕ) (g : ℕ) where
     | inr t ↦ sym t
   ])
 
+-- whether the group g contains the set s, both of whatever yard
+abbrev pub Contained : ℕ → Bool → ℕ → Type 0
+Contained g b s = (n : ℕ) → s < 2 ^ n → b ≡ within n s g
+
+-- so `any` answers
+pub enough_so : (d : Draft) (xs : List ℕ) (g : ℕ) (r : Bool) → xs ≡ sets_of d → MatchBool r ((j : ℕ) × (j < length xs) × HoldsAt (Contained g true) xs j) (AllWithin (Contained g false) xs 0 (length xs)) →
+    r ≡ any (λ s. within (size_of d) s g) (sets_of d)
+enough_so d xs g true e (j, l, h) = enough_here (size_of d) (sets_of d) xs g j e l (sym (h 0 (size_of d) (inside_of d xs e j l)))
+enough_so d xs g false e f = enough_none (size_of d) (sets_of d) xs g e (λ j l w.
+    both_ways (within (size_of d) (slice_index xs j) g) (sym (f j 0 (omega arith) l (size_of d) (inside_of d xs e j l))) ((within_decides (size_of d) (slice_index xs j) g).1 w))
+
 -- ---- a group meets every set, or does not
 module _ (d : Draft) (xs : List ℕ) (g : ℕ) where
   pub meets_none : (j : ℕ) → xs ≡ sets_of d → j < length xs → bit_and (slice_index xs j) g ≡ 0 → false ≡ meets_all (size_of d) (sets_of d) g
@@ -39,14 +54,19 @@ module _ (d : Draft) (xs : List ℕ) (g : ℕ) where
 
   pub meets_each : xs ≡ sets_of d → ((j : ℕ) → j < length xs → 0 < bit_and (slice_index xs j) g) → true ≡ meets_all (size_of d) (sets_of d) g
   meets_each e f =
-      let inside : Inside (size_of d) xs = subst (λ v. Inside (size_of d) v) (sym e) d.inside in
-      subst (λ v. true ≡ meets_all (size_of d) v g) e (sym ((meets_all_decides (size_of d) xs g).1 (λ j l. and_meets (size_of d) (slice_index xs j) g (inside j l) (f j l))))
+      subst (λ v. true ≡ meets_all (size_of d) v g) e (sym ((meets_all_decides (size_of d) xs g).1 (λ j l. and_meets (size_of d) (slice_index xs j) g (inside_of d xs e j l) (f j l))))
+
+  -- so `all` answers
+  pub meets_all_so : (r : Bool) → xs ≡ sets_of d → MatchBool r (AllWithin (λ s. 0 < bit_and s g) xs 0 (length xs)) ((j : ℕ) × (j < length xs) × HoldsAt (λ s. bit_and s g ≡ 0) xs j) →
+      r ≡ meets_all (size_of d) (sets_of d) g
+  meets_all_so true e f = meets_each e (λ j l. f j 0 (omega arith) l)
+  meets_all_so false e (j, l, z) = meets_none j e l (z 0)
 
 -- ---- every three sets share a controller, or some three do not
 module _ (d : Draft) (xs : List ℕ) (e : xs ≡ sets_of d) where
   pub and_threes : ((a b c : ℕ) → a < length xs → b < length xs → c < length xs → 0 < bit_and (bit_and (slice_index xs a) (slice_index xs b)) (slice_index xs c)) → ThreesShare (size_of d) (sets_of d)
   and_threes f =
-      let inside : Inside (size_of d) xs = subst (λ v. Inside (size_of d) v) (sym e) d.inside in
+      let inside = inside_of d xs e in
       subst (λ v. ThreesShare (size_of d) v) e (λ a b c la lb lc. and_shares (size_of d) (slice_index xs a) (slice_index xs b) (slice_index xs c) (inside a la) (f a b c la lb lc))
 
   pub none_shared : (a b c : ℕ) → a < length xs → b < length xs → c < length xs → bit_and (bit_and (slice_index xs a) (slice_index xs b)) (slice_index xs c) ≡ 0

@@ -1,7 +1,7 @@
 -- Sealing: what it answers, and what the table then holds.
 --
 -- `n` is the number of controllers of the yard, and `sets` the sets of the draft.
-use Rattle.std.specs.Prelude.{◌≡◌, ℕ, ◌<◌, cond, List, length, take, Some, None, Ok, Err, Option, Result, ◌==◌}
+use Rattle.std.specs.Prelude.{◌≡◌, ℕ, ◌<◌, if◌then◌else◌, List, length, take, Some, None, Ok, Err, Option, Result, ◌==◌}
 use Rattle.structure.specs.Groups.{◌∈◌, members}
 use Rattle.structure.specs.Meanings.{Meaning}
 use Rattle.cores.specs.Sharing.{ThreesShare, threes_share}
@@ -32,7 +32,7 @@ refused_with (Err e) = Some (number e)
 
 -- refused with 13 without a set, then with 14 where three sets share no controller
 abbrev pub sealing : ℕ → List ℕ → Option ℕ
-sealing n sets = cond (length sets == 0) (Some 13) (cond (threes_share n sets) None (Some 14))
+sealing n sets = if length sets == 0 then Some 13 else if threes_share n sets then None else Some 14
 
 -- The sets at the places p, q and r, which need not differ, have no controller in common.
 -- Where several triples have none, it is left free which of them a refusal shows.

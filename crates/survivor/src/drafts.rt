@@ -1,5 +1,5 @@
-ghost use Rattle.std.specs.Prelude.{◌≡◌, ℕ, ◌^◌, ◌<◌, [], ◌∷◌, ◌++◌, length, Ok, Err, nat_le};
-ghost use Rattle.survivor.specs.Drafts.{size_of, sets_of, making, adding, misplaced, comparable, first_comparable, Addable, AgainstMaking, AgainstAdding};
+ghost use Rattle.std.specs.Prelude.{◌≡◌, ℕ, ◌^◌, ◌<◌, length, nat_le};
+ghost use Rattle.survivor.specs.Drafts.{size_of, sets_of, making, adding, misplaced, comparable, first_comparable, MadeBecause, AddedBecause, AddedTo};
 ghost use Rattle.survivor.specs.Refusals.{said};
 ghost use Rattle.cores.specs.Sharing.{Inside};
 
@@ -18,12 +18,9 @@ fn comparable(a: Group, b: Group) -> bool
 fn first_comparable(sets: &[Group], set: Group) -> Option<usize>
     ensures { (n : ℕ) → Inside n sets.now → set < 2 ^ n → result ≡ first_comparable n 1 sets.now set }
 {
-    for (i, old) in sets.iter().enumerate() {
-        if comparable(*old, set) {
-            return Some(i + 1);
-        }
-    }
-    None
+    sets.iter()
+        .position(|old| comparable(*old, set))
+        .map(|i| i + 1)
 }
 
 impl Draft {
@@ -32,7 +29,7 @@ impl Draft {
     /// Refused with 1 where `n` is 0 or above 16.
     pub fn new(n: u32) -> Result<Draft, DraftRefusal>
         ensures answer { said result ≡ making n }
-        ensures reason { elim result [ Ok d ↦ (size_of d ≡ n) × (sets_of d ≡ []) | Err e ↦ AgainstMaking n e ] }
+        ensures reason { MadeBecause n result }
     {
         if !is_yard_size(n) {
             return Err(DraftRefusal::YardSize);
@@ -78,8 +75,8 @@ impl Draft {
     /// 12, the set contains, equals or lies within one of the draft. A refused set leaves the draft as it was.
     pub fn add(&mut self, set: Group) -> Result<(), DraftRefusal>
         ensures answer { said result ≡ adding (size_of self.old) (sets_of self.old) set }
-        ensures reason { elim result [ Ok _ ↦ Addable (size_of self.old) (sets_of self.old) set | Err e ↦ AgainstAdding (size_of self.old) (sets_of self.old) set e ] }
-        ensures after { elim result [ Ok _ ↦ (size_of self.new ≡ size_of self.old) × (sets_of self.new ≡ sets_of self.old ++ set ∷ []) | Err e ↦ self.new ≡ self.old ] }
+        ensures reason { AddedBecause self.old set result }
+        ensures after { AddedTo self.old set result self.new }
     {
         if self.misplaced(set) {
             return Err(DraftRefusal::EmptyOrOutside);

@@ -1,4 +1,4 @@
-ghost use Rattle.std.specs.Prelude.{◌≡◌, ◌<◌, ◌≤◌, true, ◌↔◌, [], ◌∷◌, length, take, is_ok, Some, None};
+ghost use Rattle.std.specs.Prelude.{◌≡◌, ◌<◌, ◌≤◌, ◌↔◌, [], ◌∷◌, length, take, IsOk, MatchOption};
 ghost use Rattle.structure.specs.Groups.{members};
 ghost use Rattle.cores.specs.Leads.{leading_core, meets_all, Leading};
 ghost use Rattle.cores.specs.Sharing.{ThreesShare, SplitsKeepACore, WordingsAgree};
@@ -11,7 +11,8 @@ use crate::refusals::DraftRefusal;
 use crate::tables::{Draft, Table};
 use structure::{Group, Structure, belongs, contains, everyone};
 
-/// The members of a group among the first `size` controllers, by rising number, and how many there are.
+/// The members of a group among the first `size` controllers, by rising number, and how many there are. (An array and a count,
+/// since a table, which keeps them, is `Copy`.)
 fn list_members(size: u8, group: Group) -> ([u8; 16], usize)
     requires { size ≤ 16 }
     ensures { (take result.1 result.0 ≡ members size group) × (result.1 ≤ 16) }
@@ -30,7 +31,7 @@ fn list_members(size: u8, group: Group) -> ([u8; 16], usize)
 impl Draft {
     /// The places of three sets that share no controller.
     fn none_shared(&self) -> Option<(usize, usize, usize)>
-        ensures { elim result [ Some t ↦ NothingShared (size_of self.now) (sets_of self.now) t.0 t.1 t.2 | None ↦ ThreesShare (size_of self.now) (sets_of self.now) ] }
+        ensures { MatchOption result (ThreesShare (size_of self.now) (sets_of self.now)) (λ t. NothingShared (size_of self.now) (sets_of self.now) t.0 t.1 t.2) }
     {
         let sets = self.sets();
         for (i, a) in sets.iter().enumerate() {
@@ -49,15 +50,11 @@ impl Draft {
     fn meets_all(&self, group: Group) -> bool
         ensures { result ≡ meets_all (size_of self.now) (sets_of self.now) group }
     {
-        for set in self.sets() {
-            if *set & group == 0 {
-                return false;
-            }
-        }
-        true
+        self.sets().iter().all(|set| *set & group != 0)
     }
 
-    /// The core of least size, among equals the one with the least number: one pass over the groups of the yard.
+    /// The core of least size, among equals the one with the least number: one pass over the groups of the yard. (`min_by_key` over
+    /// the groups that meet all sets would ask that of each group; here only smaller ones are asked, which is much faster.)
     fn leading_core(&self) -> Group
         requires { 0 < length (sets_of self.now) }
         ensures { result ≡ leading_core (size_of self.now) (sets_of self.now) }
@@ -83,8 +80,8 @@ impl Draft {
         ensures answer { refused_with result ≡ sealing (size_of self.now) (sets_of self.now) }
         ensures reason { Reason (size_of self.now) (sets_of self.now) result }
         ensures after { Writes self.now table.old result table.new }
-        ensures threes { 0 < length (sets_of self.now) → (is_ok result ≡ true) ↔ ThreesShare (size_of self.now) (sets_of self.now) }
-        ensures splits { 0 < length (sets_of self.now) → (is_ok result ≡ true) ↔ SplitsKeepACore (size_of self.now) (sets_of self.now) }
+        ensures threes { 0 < length (sets_of self.now) → IsOk result ↔ ThreesShare (size_of self.now) (sets_of self.now) }
+        ensures splits { 0 < length (sets_of self.now) → IsOk result ↔ SplitsKeepACore (size_of self.now) (sets_of self.now) }
         ensures wordings { WordingsAgree }
     {
         if self.sets().is_empty() {
@@ -148,12 +145,7 @@ impl Structure for Table {
     }
 
     fn enough(&self, group: Group) -> bool {
-        for set in self.sets() {
-            if contains(group, *set) {
-                return true;
-            }
-        }
-        false
+        self.sets().iter().any(|set| contains(group, *set))
     }
 
     fn lead(&self, place: usize) -> Option<u8> {

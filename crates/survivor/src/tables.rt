@@ -1,6 +1,7 @@
 //! A draft and a sealed table, each with what always holds of it.
 //!
-//! The sets are the first `count` of the array. What the methods answer is said by `specs/`, which names these types and so
+//! The sets are the first `count` of the array, and the leads the first `phases` of theirs: drafts and tables are `Copy`, which
+//! a list with a length of its own is not. What the methods answer is said by `specs/`, which names these types and so
 //! cannot be cited here: the methods stand in `drafts` and `seals`.
 ghost use Rattle.std.specs.Prelude.{◌≡◌, ◌<◌, ◌≤◌, length, take};
 ghost use Rattle.cores.specs.Leads.{table};

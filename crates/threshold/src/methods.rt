@@ -1,6 +1,6 @@
-ghost use Rattle.std.specs.Prelude.{◌≡◌, ◌-◌, ◌/◌, Ok, Err};
+ghost use Rattle.std.specs.Prelude.{◌≡◌};
 ghost use Rattle.threshold.specs.Refusals.{said};
-ghost use Rattle.threshold.specs.Thresholds.{size_of, faults_of, meaning_of, making, AgainstMaking, asking, AgainstAsking, Greatest};
+ghost use Rattle.threshold.specs.Thresholds.{size_of, faults_of, meaning_of, making, MadeBecause, asking, AnsweredBecause};
 ghost use Rattle.threshold.specs.Laws.{threshold_lawful};
 
 use crate::refusals::ThresholdRefusal;
@@ -13,7 +13,7 @@ impl Threshold {
     /// Refused with 1 where `n` is 0 or above 16, then with 5 where 3 × `t` is `n` or more.
     pub fn new(n: u32, t: u32) -> Result<Threshold, ThresholdRefusal>
         ensures answer { said result ≡ making n t }
-        ensures reason { elim result [ Ok s ↦ (size_of s ≡ n) × (faults_of s ≡ t) | Err e ↦ AgainstMaking n t e ] }
+        ensures reason { MadeBecause n t result }
     {
         if !is_yard_size(n) {
             return Err(ThresholdRefusal::YardSize);
@@ -38,7 +38,7 @@ impl Threshold {
 /// The greatest fault number that a yard of `n` controllers can have. Refused with 1 where `n` is 0 or above 16.
 pub fn greatest_faults(n: u32) -> Result<u8, ThresholdRefusal>
     ensures answer { said result ≡ asking n }
-    ensures reason { elim result [ Ok t ↦ (t ≡ (n - 1) / 3) × Greatest n t | Err e ↦ AgainstAsking n e ] }
+    ensures reason { AnsweredBecause n result }
 {
     if !is_yard_size(n) {
         return Err(ThresholdRefusal::YardSize);
@@ -61,10 +61,6 @@ impl Structure for Threshold {
     }
 
     fn lead(&self, place: usize) -> Option<u8> {
-        if place <= usize::from(self.faults) {
-            Some(place as u8)
-        } else {
-            None
-        }
+        (place <= usize::from(self.faults)).then(|| place as u8)
     }
 }

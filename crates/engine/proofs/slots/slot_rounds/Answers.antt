@@ -1,10 +1,9 @@
-use Rattle.std.proofs.Common.{rules}
 use Rattle.rounds.proofs.Slots.{slot_agrees}
 use Rattle.rounds.proofs.Existence.{runs_exist}
 use Rattle.engine.proofs.slots.slot_rounds.Goals as goal
 
-pub returns : goal.returns
-returns g c =
-    let s = c.args.structure.now in
-    let m = g.S.Structure.meaning s in
-    record { value = search rules; agrees = slot_agrees m (g.met.S.Structure.lawful s); exist = runs_exist m }
+pub returns-clause-agrees : goal.returns-clause-agrees
+returns-clause-agrees g c = slot_agrees (g.S.Structure.meaning c.args.structure.now) (g.met.S.Structure.lawful c.args.structure.now)
+
+pub returns-clause-exist : goal.returns-clause-exist
+returns-clause-exist g c = runs_exist (g.S.Structure.meaning c.args.structure.now)

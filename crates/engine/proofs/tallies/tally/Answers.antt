@@ -1,5 +1,5 @@
-use Rattle.std.proofs.Common.{◌≡◌, ◌+◌, true, false, length, drop, sym, ap, ◌∙◌, arith}
-use Rattle.std.proofs.lemmas.List.{length-take, drop_all}
+use Rattle.std.proofs.Common.{◌≡◌, ◌+◌, true, false, length, min, take, drop, sym, ap, ◌∙◌, arith}
+use Rattle.std.proofs.lemmas.List.{drop_all, take_min}
 use Rattle.rounds.specs.Rows.{group}
 use Rattle.engine.specs.Words.{word_code, codes}
 use Rattle.engine.proofs.Groups.{group_turn}
@@ -7,13 +7,10 @@ use Rattle.engine.proofs.Words.{codes_from}
 use Rattle.engine.proofs.tallies.tally.Goals as goal
 use Rattle.engine.proofs.tallies.tally.Goals.{then-says, else-says}
 
-pub alone-group-requires : goal.alone-group-requires
-alone-group-requires g c = omega (arith, ap length c.first_sixteen-counted.ensures, length-take 16 c.args.words.now)
-
 pub loop-i-preserved : goal.loop-i-preserved
 loop-i-preserved g c =
     let K = g.V.Same in
-    let words = c.first_sixteen-counted.result.now in
+    let words = take c.min.result c.args.words.now in
     let i = c.loop-i.i in
     let word = c.index-counted-i.result in
     let turn = group_turn (K.code c.args.value.now) (codes K words) (codes K (drop i words)) (codes K (drop (i + 1) words)) (word_code K word) c.loop-i.group i in
@@ -31,7 +28,8 @@ pub returns : goal.returns
 returns g c =
     let K = g.V.Same in
     let v = K.code c.args.value.now in
-    let words = c.first_sixteen-counted.result.now in
+    let words = take c.min.result c.args.words.now in
     let past : group v (codes K (drop c.loop-i.i words)) ≡ 0 = ap (λ ws. group v (codes K ws)) (drop_all c.loop-i.i words c.loop-i-test.false) in
     let all : c.loop-i.group ≡ group v (codes K words) = omega (arith, rw past at c.loop-i.invariant.2) in
-    all ∙ ap (λ ws. group v (codes K ws)) c.first_sixteen-counted.ensures
+    let counted : c.min.result ≡ min 16 (length c.args.words.now) = omega arith in
+    all ∙ ap (λ ws. group v (codes K ws)) (ap (λ n. take n c.args.words.now) counted ∙ take_min 16 c.args.words.now)

@@ -1,16 +1,11 @@
-use Rattle.std.proofs.Common.{sym}
-use Rattle.survivor.proofs.Adding.{found_here, left_more, found_none}
+use Rattle.std.proofs.Common.{true, false, rules}
+use Rattle.std.proofs.lemmas.Iterator.{YieldsList-from_slice, IsFirst-from_position}
+use Rattle.survivor.proofs.Adding.{Compared, first_so}
 use Rattle.survivor.proofs.drafts.first_comparable.Goals as goal
 
-pub returns-then-comparable : goal.returns-then-comparable
-returns-then-comparable c n inside below =
-    let l = c.loop-i-test.true in
-    found_here n c.args.sets.now c.args.set c.loop-i.i l (c.loop-i.invariant n inside below) (sym (c.if-comparable.ensures n (inside c.loop-i.i l) below))
-
-pub loop-i-preserved : goal.loop-i-preserved
-loop-i-preserved c n inside below =
-    let l = c.loop-i-test.true in
-    left_more n c.args.sets.now c.args.set c.loop-i.i l (c.loop-i.invariant n inside below) (sym (c.if-comparable.ensures n (inside c.loop-i.i l) below))
-
 pub returns : goal.returns
-returns c n inside below = found_none n c.args.sets.now c.args.set c.loop-i.i c.loop-i-test.false (c.loop-i.invariant n inside below)
+returns c n inside below =
+    let s = c.args.set in
+    first_so n c.args.sets.now s inside below c.position.result c.map.result
+    (IsFirst-from_position _ _ c.position.result (Compared s true) (Compared s false) c.position.ensures.ran (YieldsList-from_slice c.args.sets.now cc) (λ x q k. search rules) (λ x q k. search rules))
+    (search rules)

@@ -10,7 +10,7 @@ returns-then-fits g c =
     let fits = fits_in g.D.Duty row.duty.now in
     let v = g.D.Value.Same.code c.args.value.now in
     c.enough.ensures
-    ∙ ap (meaning_of g.S.Structure row).enough (c.tally.ensures ∙ fit_group g.D.Value.Same fits row.words.now v row.short (sym c.fits.ensures ∙ c.if-fits.true))
+    ∙ ap (meaning_of row).enough (c.tally.ensures ∙ fit_group g.D.Value.Same fits row.words.now v row.short (sym c.fits.ensures ∙ c.if-fits.true))
 
 pub returns-else-fits : goal.returns-else-fits
 returns-else-fits g c =
@@ -18,4 +18,4 @@ returns-else-fits g c =
     let fits = fits_in g.D.Duty row.duty.now in
     let v = g.D.Value.Same.code c.args.value.now in
     c.if-fits.false
-    ∙ sym (unfit_enough (meaning_of g.S.Structure row) (g.met.S.Structure.lawful row.structure.now) fits (codes g.D.Value.Same row.words.now) v (sym c.fits.ensures ∙ c.if-fits.false))
+    ∙ sym (unfit_enough (meaning_of row) (g.met.S.Structure.lawful row.structure.now) fits (codes g.D.Value.Same row.words.now) v (sym c.fits.ensures ∙ c.if-fits.false))

@@ -10,12 +10,12 @@ returns-then-not-fits g c =
     let row = c.args.self.now in
     let fits = fits_in g.D.Duty row.duty.now in
     let v = g.D.Value.Same.code c.args.value.now in
-    sym (unfit_weighty (meaning_of g.S.Structure row) (g.met.S.Structure.lawful row.structure.now) fits (codes g.D.Value.Same row.words.now) v (sym c.fits.ensures ∙ c.if-not-fits.true))
+    sym (unfit_weighty (meaning_of row) (g.met.S.Structure.lawful row.structure.now) fits (codes g.D.Value.Same row.words.now) v (sym c.fits.ensures ∙ c.if-not-fits.true))
 
 pub returns : goal.returns
 returns g c =
     let row = c.args.self.now in
-    let m = meaning_of g.S.Structure row in
+    let m = meaning_of row in
     let fits = fits_in g.D.Duty row.duty.now in
     let v = g.D.Value.Same.code c.args.value.now in
     let said = c.tally.ensures ∙ fit_group g.D.Value.Same fits row.words.now v row.short (sym c.fits.ensures ∙ c.if-not-fits.false) in

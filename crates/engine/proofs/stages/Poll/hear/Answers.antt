@@ -1,4 +1,4 @@
-use Rattle.std.proofs.Common.{◌≡◌, rules}
+use Rattle.std.proofs.Common.{◌≡◌}
 use Rattle.structure.specs.Meanings.{Meaning, Laws}
 use Rattle.rounds.specs.Rows.{Word, Row}
 use Rattle.rounds.specs.Rounds.{polled}
@@ -9,7 +9,5 @@ use Rattle.engine.proofs.stages.Poll.hear.Goals as goal
 by_law : (m : Meaning) → Laws m → (row : Row) (y : Word) → y ≡ polled m row → Polls m row y
 by_law m lawful row y e = rw e (laws.polls m lawful row)
 
-pub returns : goal.returns
-returns g c =
-    let lawful = g.met.S.Structure.lawful c.args.row.now.structure.now in
-    record { stage = search rules; same = search rules; polls = by_law _ lawful _ _ c.first.ensures }
+pub returns-clause-polls : goal.returns-clause-polls
+returns-clause-polls g c = by_law _ (g.met.S.Structure.lawful c.args.row.now.structure.now) _ _ c.first_enough.ensures
