@@ -44,16 +44,28 @@ fn read_one<'t>(bytes: &mut Vec<u8>, text: &'t [u8]) -> anyhow::Result<&'t [u8]>
     Ok(rest)
 }
 
+/// The number that digits say, as far as 32 bits go; no digits say 0.
+fn number(digits: &[u8]) -> anyhow::Result<u32> {
+    let mut number = 0u32;
+    for digit in digits {
+        let b'0'..=b'9' = *digit else {
+            bail!("no brace after the number of a repetition");
+        };
+        number = number
+            .saturating_mul(10)
+            .saturating_add(u32::from(*digit - b'0'));
+    }
+    Ok(number)
+}
+
 /// Adds a repetition, of which the text stands after `\*`, and gives the rest of the text.
 fn read_repetition<'t>(bytes: &mut Vec<u8>, text: &'t [u8]) -> anyhow::Result<&'t [u8]>
     ensures { IfOk result (λ rest. length rest.now < length text.now) }
 {
-    let (times, text) = split_once(text, b'{').context(
+    let (digits, text) = split_once(text, b'{').context(
         "no brace after the number of a repetition",
     )?;
-    let times = std::str::from_utf8(times)?
-        .parse::<u32>()
-        .context("no number of a repetition")?;
+    let times = number(digits)?;
     let (mut body, rest) = split_once(text, b'}').context("an escape without its end")?;
     let mut repeated = Vec::new(*bytes.allocator());
     while !body.is_empty() {
