@@ -25,9 +25,10 @@ amps_new n bays few new =
     (ap length same ∙ length-replicate n (record { amps = 0 }), ap amps_of same ∙ zeros n)
 
 -- the bays once one of them has other amps, and the vector that they are written back to
-pub amps_set : (before : ArrayVec Bay) (after : List Bay) (i y : ℕ) → after ≡ set before.items i (record { amps = y }) →
+pub amps_set : (before : ArrayVec Bay) (lent after : List Bay) (i y : ℕ) → lent ≡ before.items → after ≡ set lent i (record { amps = y }) →
     (length (with_items before after).items ≡ length before.items) × (amps_of (with_items before after).items ≡ set (amps_of before.items) i y)
-amps_set before after i y changed =
+amps_set before lent after i y is written =
+    let changed : after ≡ set before.items i (record { amps = y }) = written ∙ ap (λ bays. set bays i (record { amps = y })) is in
     let same : length after ≡ length before.items = ap length changed ∙ length-set before.items i (record { amps = y }) in
     let whole = items-with_items before after same in
     (ap length whole ∙ same, ap amps_of (whole ∙ changed) ∙ map-set amps before.items i (record { amps = y }))

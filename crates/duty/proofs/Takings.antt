@@ -1,5 +1,5 @@
 -- What follows from the promise of `take`, for one call and for many.
-use Rattle.std.proofs.Common.{◌≡◌, ℕ, Bool, false, cond, ◌&&◌, List, [], ◌∷◌, Ok, Err, Result, sym, refl, ap, ◌∙◌, inl, inr, arith}
+use Rattle.std.proofs.Common.{◌≡◌, ℕ, Bool, false, cond, ◌&&◌, List, [], ◌∷◌, Ok, Err, Result, sym, refl, ap, ◌∙◌, inl, inr}
 use Rattle.std.proofs.lemmas.Bool.{cases_Bool, cond-true, cond-false}
 use Rattle.duty.specs.Codes.{Code}
 use Rattle.duty.specs.declared.outcomes.Outcome.{Outcome}
@@ -112,8 +112,8 @@ module _
 
     pub alike_stays : AlikeStays settings content fitting step
     alike_stays d d' e e' [] [] a l k same = (record { same_settings = ap settings l ∙ a.same_settings ∙ sym (ap settings k); same_content = ap content l ∙ a.same_content ∙ sym (ap content k) }, refl)
-    alike_stays d d' e e' [] (y ∷ ys) a l k same = absurd (let z : ◌≡◌ {A = ℕ} 0 1 = cc in omega arith)
-    alike_stays d d' e e' (x ∷ xs) [] a l k same = absurd (let z : ◌≡◌ {A = ℕ} 0 1 = cc in omega arith)
+    alike_stays d d' e e' [] (y ∷ ys) a l k same = absurd cc
+    alike_stays d d' e e' (x ∷ xs) [] a l k same = absurd cc
     alike_stays d d' e e' (x ∷ xs) (y ∷ ys) a l k same =
         let first : x.code ≡ y.code = cc in
         let rest : codes xs ≡ codes ys = cc in

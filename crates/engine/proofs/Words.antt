@@ -32,10 +32,6 @@ module _ {V : Type 0} (K : Same V) where
   code_or None v = refl
   code_or (Some w) v = refl
 
-  pub nothing_or : (word : Option V) (v : V) → word_code K word ≡ None → unwrap_or word v ≡ v
-  nothing_or None v e = refl
-  nothing_or (Some w) v e = absurd (let z : ◌≡◌ {A = ℕ} 0 1 = cc in omega arith)
-
   -- the word is the value where it has one that `P` says so of
   pub when_said : (value : V) (word : Option V) (o : Option (Bor V)) (r : Bool) {P : Bor V → Type 0} → option_copied o ≡ word → MatchOption o (r ≡ false) P →
       ((x : Bor V) → P x → r ≡ same_code (K.code value) (K.code x.now)) → r ≡ says (K.code value) (word_code K word)

@@ -1,5 +1,5 @@
 -- Groups as numbers, bit by bit: what the operators on numbers say of membership.
-use Rattle.std.proofs.Common.{◌≡◌, ℕ, zero, suc, ◌*◌, ◌/◌, ◌%◌, ◌^◌, ◌<◌, ◌≤◌, min, false, not, ◌&&◌, ◌||◌, eqb, Decides, sym, refl, ap, ◌∙◌, inl, inr, suc-le-suc, mod-eq_of_lt, pow-suc, div-one, one-add, arith, pow_mono}
+use Rattle.std.proofs.Common.{◌≡◌, ℕ, zero, suc, ◌*◌, ◌/◌, ◌%◌, ◌^◌, ◌<◌, ◌≤◌, min, false, not, ◌&&◌, ◌||◌, eqb, Decides, sym, refl, ap, ◌∙◌, inl, inr, suc-le-suc, pow-suc, div-one, one-add, arith, pow_mono}
 use native.Mathlib.Nat.{div-eq_of_lt, zero-div}
 use lib.Bits.{bit_and, and_step, and_zero_l}
 use Rattle.std.proofs.lemmas.Nat.{pow_pos, shr-shr, and_shr, and_le_l, and_mask, mod_below}
@@ -173,10 +173,6 @@ in_cut n g i l p = and_in g (everyone n) i p (everyone_has n i l)
 pub cut_in : (n g i : ℕ) → i ∈ cut n g → i ∈ g
 unfolding cut
 cut_in n g i p = (in_and g (everyone n) i p).0
-
-pub cut_same : (n g : ℕ) → g < 2 ^ n → cut n g ≡ g
-unfolding cut
-cut_same n g l = and_mask g n ∙ mod-eq_of_lt l
 
 -- groups below 2 ^ n with the same controllers are one
 pub same_group : (n a b : ℕ) → a < 2 ^ n → b < 2 ^ n → Within n a b → Within n b a → a ≡ b

@@ -91,9 +91,6 @@ count_listed (suc n) g = elim (cases_Bool (has g n)) [
       omega (arith, length_out n g e, count_listed n g)
 ]
 
-pub count_few : (n g : ℕ) → count n g ≤ n
-count_few n g = omega (arith, count_listed n g, members_few n g)
-
 pub count_everyone : (n : ℕ) → count n (everyone n) ≡ n
 count_everyone n = all n (omega arith)
   where

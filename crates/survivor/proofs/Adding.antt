@@ -9,7 +9,7 @@ use Rattle.std.proofs.lemmas.Bool.{cases_eq, cases_lt, both_ways, or_cases, or_p
 use Rattle.std.proofs.lemmas.Bool.Decides.{Decides-or}
 use Rattle.structure.specs.Groups.{◌∈◌, Within, within}
 use Rattle.structure.proofs.Bits.{none_in, some_in, in_below, high_in, within_decides}
-use Rattle.survivor.specs.Drafts.{Place, at_place, misplaced, comparable, first_comparable, refused_at, adding, WellPlaced, AreComparable}
+use Rattle.survivor.specs.Drafts.{Place, at_place, misplaced, comparable, first_comparable, WellPlaced, AreComparable}
 use Rattle.cores.specs.Sharing.{NoneEmpty, Inside}
 use Rattle.survivor.specs.Sets.{Incomparable}
 
@@ -57,13 +57,13 @@ module _ (n s : ℕ) where
       go : (t : Bool) → comparable n x s ≡ t → cond t (Some p) (first_comparable n (p + 1) xs s) ≡ None
           → (first_comparable n (p + 1) xs s ≡ None → (j : ℕ) → j < length xs → comparable n (get_or xs j 0) s ≡ false)
           → (j : ℕ) → j < length (x ∷ xs) → comparable n (get_or (x ∷ xs) j 0) s ≡ false
-      go true c e rest j l = let z : ◌≡◌ {A = ℕ} 0 1 = cc in absurd (omega arith)
+      go true c e rest j l = absurd cc
       go false c e rest zero l = c
       go false c e rest (suc j) l = rest e j (omega arith)
 
   found : (q : ℕ) (xs : List ℕ) (p : ℕ) → first_comparable n q xs s ≡ Some p
       → (i : ℕ) × (p ≡ q + i) × (i < length xs) × (comparable n (get_or xs i 0) s ≡ true) × ((k : ℕ) → k < i → comparable n (get_or xs k 0) s ≡ false)
-  found q [] p e = let z : ◌≡◌ {A = ℕ} 0 1 = cc in absurd (omega arith)
+  found q [] p e = absurd cc
   found q (x ∷ xs) p e = go (comparable n x s) refl e (found (q + 1) xs p)
     where
       go : (t : Bool) → comparable n x s ≡ t → cond t (Some q) (first_comparable n (q + 1) xs s) ≡ Some p
@@ -123,17 +123,6 @@ placed_proper n s e =
     let (some, below) = placed_below n s e in
     let (i, _, m) = some_in n s below some in
     ((i, m), λ i m. in_below n s i below m)
-
--- ---- what adding answers, by the first reason
-module _ (n : ℕ) (sets : List ℕ) (s : ℕ) where
-  pub adding_misplaced : misplaced n s ≡ true → 2 ∷ [] ≡ adding n sets s
-  adding_misplaced m = simp m
-
-  pub adding_full : misplaced n s ≡ false → length sets ≡ 64 → 11 ∷ [] ≡ adding n sets s
-  adding_full m e = let f = le-leb 64 (length sets) (omega arith) in simp (m, f)
-
-  pub adding_placed : (o : Option ℕ) → misplaced n s ≡ false → length sets < 64 → first_comparable n 1 sets s ≡ o → refused_at o ≡ adding n sets s
-  adding_placed o m l e = let f = lt-leb 64 (length sets) l in simp (m, f, e)
 
 -- ---- one set more
 module _ (sets : List ℕ) (count s : ℕ) (room : count < length sets) where

@@ -1,4 +1,4 @@
-use Rattle.std.proofs.Common.{◌≡◌, ℕ, true, List, Ok, set, sum, sym, ap, ◌∙◌, arith, rules}
+use Rattle.std.proofs.Common.{◌≡◌, ℕ, true, List, Ok, sum, sym, ap, ◌∙◌, arith, rules}
 use Rattle.std.proofs.lemmas.Bool.{both_ways}
 use Rattle.duty.specs.declared.outcomes.Outcome.{Outcome}
 use Rattle.depot.specs.Boards.{fitting}
@@ -12,25 +12,22 @@ pub invariant_of-self : goal.invariant_of-self
 invariant_of-self c =
     let board = c.args.self.now in
     let grant = c.args.grant.now in
-    let (same, changed) = amps_set board.bays c.set_amps.new.bays grant.bay grant.amps (c.set_amps.ensures.this_bay ∙ ap (λ bays. set bays grant.bay (record { amps = grant.amps })) c.deref_mut.ensures.value) in
+    let (same, changed) = amps_set board.bays c.deref_mut.result.now c.set_amps.new.bays grant.bay grant.amps c.deref_mut.ensures.value c.set_amps.ensures.this_bay in
     let total = ap sum changed in
     record { some = omega arith; few = omega arith; rated = board.rated; within = omega arith }
 
-pub returns : goal.returns
-returns c =
+pub returns-clause-takes : goal.returns-clause-takes
+returns-clause-takes c =
     let board = c.args.self.now in
     let grant = c.args.grant.now in
     let s = settings_of board in
-    let (same, changed) = amps_set board.bays c.set_amps.new.bays grant.bay grant.amps (c.set_amps.ensures.this_bay ∙ ap (λ bays. set bays grant.bay (record { amps = grant.amps })) c.deref_mut.ensures.value) in
+    let (same, changed) = amps_set board.bays c.deref_mut.result.now c.set_amps.new.bays grant.bay grant.amps c.deref_mut.ensures.value c.set_amps.ensures.this_bay in
     let fits : fitting s (grant_code grant) ≡ true = search rules in
     let stepped = step_within s (content_of board) (grant_code grant) (omega arith) in
     record {
-      takes = record {
-        same_settings = ap (λ k. record { bays = k; feed = board.feed }) same;
-        fit_content = λ _. changed ∙ sym (ap (λ (p : List ℕ × Outcome). p.0) stepped);
-        fit_outcome = λ _. sym (ap (λ (p : List ℕ × Outcome). Ok p.1) stepped);
-        unfit_refused = λ unfit. absurd (both_ways (fitting s (grant_code grant)) unfit fits);
-        unfit_unchanged = λ unfit. absurd (both_ways (fitting s (grant_code grant)) unfit fits);
-      };
-      aside = λ e. let z : ◌≡◌ {A = ℕ} 0 1 = cc in absurd (omega arith);
+      same_settings = ap (λ k. record { bays = k; feed = board.feed }) same;
+      fit_content = λ _. changed ∙ sym (ap (λ (p : List ℕ × Outcome). p.0) stepped);
+      fit_outcome = λ _. sym (ap (λ (p : List ℕ × Outcome). Ok p.1) stepped);
+      unfit_refused = λ unfit. absurd (both_ways (fitting s (grant_code grant)) unfit fits);
+      unfit_unchanged = λ unfit. absurd (both_ways (fitting s (grant_code grant)) unfit fits);
     }

@@ -13,8 +13,8 @@ overflow_sub-result c =
     let part = amps_le_sum board.bays.items grant.bay (record { amps = 0 }) inside in
     omega arith
 
-pub returns : goal.returns
-returns c =
+pub returns-clause-value : goal.returns-clause-value
+returns-clause-value c =
     let board = c.args.self.now in
     let grant = c.args.grant.now in
     let inside : grant.bay < length board.bays.items = grind (arith, nat_tests) in

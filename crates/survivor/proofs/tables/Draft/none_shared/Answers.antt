@@ -1,4 +1,4 @@
-use Rattle.std.proofs.Common.{arith, below_more}
+use Rattle.std.proofs.Common.{arith}
 use Rattle.survivor.specs.Sealing.{none_shared, and_threes}
 use Rattle.survivor.proofs.tables.Draft.none_shared.Goals as goal
 
@@ -6,9 +6,6 @@ pub returns-then-a-b-eq0 : goal.returns-then-a-b-eq0
 returns-then-a-b-eq0 c =
     none_shared c.args.self.now c.sets-sets.result.now c.sets-sets.ensures c.loop-i.i c.loop-j.j c.loop-k.k
     c.loop-i-test.true c.loop-j-test.true c.loop-k-test.true c.if-a-b-eq0.true
-
-pub loop-i-preserved : goal.loop-i-preserved
-loop-i-preserved c = below_more _ _ c.loop-i.invariant (λ b k p q. c.loop-j.invariant b k (omega arith) q)
 
 pub returns : goal.returns
 returns c =
