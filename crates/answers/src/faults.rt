@@ -52,7 +52,8 @@ impl Fault {
         }
     }
 
-    /// The field for 7, which is 0 where the line is too long; the lowest place for 12; else 0.
+    /// The field for 7, which is 0 where the line is too long; the lowest place for 12; else 0. (The text tells a number in any case, and 0
+    /// for none, so this is no `Option`.)
     pub fn detail(self) -> usize
         ensures { result ≡ detail self }
     {

@@ -5,7 +5,7 @@ ghost use Rattle.depot.specs.Values.{plan_code, grant_code};
 use duty::Same;
 use std::fmt;
 
-/// The number of a plan. 0 stands for no plan.
+/// The number of a plan. 0 stands for no plan: the depot's people say it so, and an `Option` beside it would say it twice.
 #[derive(Clone, Copy, PartialEq, Eq, Debug)]
 pub struct Plan(pub u32);
 

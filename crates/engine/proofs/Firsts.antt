@@ -1,16 +1,14 @@
 -- The first value that passes, in a row as it came and as it is heard.
-use Rattle.std.proofs.Common.{◌≡◌, Bool, true, false, cond, [], ◌∷◌, Some, None, refl, ap}
+use Rattle.std.proofs.Common.{◌≡◌, Bool, true, false, cond, [], ◌∷◌, Some, None, refl, ap, List, map, Option, Bor, length, sym, subst}
 use Rattle.duty.specs.Codes.{Code}
 use Rattle.rounds.specs.Rows.{Row, heard}
 use Rattle.rounds.specs.Rounds.{first}
-use Rattle.std.proofs.Common.{List, map, Option, Bor}
 use Rattle.std.specs.List.{find, flat_map}
 use Rattle.std.specs.Option.{option_copied, option_map, option_to_list}
 use Rattle.std.specs.Iterator.Adapters.{option_iter_item, option_iter_done, option_iter_steps}
 use Rattle.std.proofs.lemmas.Iterator.{YieldsList}
 use Rattle.std.proofs.lemmas.Iterator.Consumers.{YieldsList-from_shown}
 use Rattle.std.specs.Prelude.{IsTrue, MatchBool}
-use Rattle.std.proofs.Common.{length, sym, subst}
 use Rattle.duty.specs.declared.values.Same.{Ghosts as Same}
 use Rattle.engine.specs.Words.{word_code, codes}
 

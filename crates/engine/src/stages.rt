@@ -31,7 +31,8 @@ pub struct Confirm<V> {
     pub(crate) y: Option<V>,
 }
 
-/// The lead round is due, with the value confirmed and whether the controller is sure of it.
+/// The lead round is due, with the value confirmed and whether the controller is sure of it. (The value is there in both cases, so an
+/// enum of the two would only say it twice.)
 #[derive(Drop)]
 pub struct Lead<V> {
     pub(crate) phase: Phase,

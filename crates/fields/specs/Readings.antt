@@ -19,15 +19,19 @@ pub numeral_lacks : (mark n : ℕ) → n < 100000 → mark < 48 → Lacks mark (
 numeral_lacks mark n h low = not_in_digits (numerals_by_value (AllDigits 10) tells_digits) (numeral n) mark (decimal_is_IsNumeral n (omega arith)).0.1 (λ i. omega arith)
 
 -- a grant's field is cut at its slash
-grant_parts : (field front rest : List ℕ) (g : Grant) → Lacks 47 front → field ≡ front ++ (47 ∷ rest) → GrantText field g → Number front g.bay × Number rest g.amps
+pub grant_parts : (field front rest : List ℕ) (g : Grant) → Lacks 47 front → field ≡ front ++ (47 ∷ rest) → GrantText field g → Number front g.bay × Number rest g.amps
 grant_parts field front rest g l e w =
     let same = same_cut 47 front (numeral g.bay) rest (numeral g.amps) l (numeral_lacks 47 g.bay w.0 (omega arith)) (sym e ∙ w.2) in
     ((w.0, same.0), (w.1, same.1))
 
--- of what is cut, the front says the bay and the rest the amps, and there is a rest
+-- and has one
+pub grant_slash : (field : List ℕ) (g : Grant) → Lacks 47 field → GrantText field g → ⊥
+grant_slash field g l w = not_lacks 47 field _ _ l w.2
+
+-- so of what is cut, the front says the bay and the rest the amps, and there is a rest
 module _ (field front : List ℕ) (rest : Option (Bor (List ℕ))) (g : Grant) (c : Cut 47 field front rest) (w : GrantText field g) where
-  pub grant_slash : rest ≡ None → ⊥
-  grant_slash e = let k = subst (Cut 47 field front) e c in not_lacks 47 field _ _ (subst (Lacks 47) (sym k.1) k.0) w.2
+  pub grant_rest : rest ≡ None → ⊥
+  grant_rest e = let k = subst (Cut 47 field front) e c in grant_slash field g (subst (Lacks 47) (sym k.1) k.0) w
 
   pub grant_amps : (r : Bor (List ℕ)) → rest ≡ Some r → Number r.now g.amps
   grant_amps r e = let k = subst (Cut 47 field front) e c in (grant_parts field front r.now g k.0 k.1 w).1
@@ -36,7 +40,7 @@ module _ (field front : List ℕ) (rest : Option (Bor (List ℕ))) (g : Grant) (
   grant_bay = at rest refl
     where
       at : (r : Option (Bor (List ℕ))) → rest ≡ r → Number front g.bay
-      at None e = absurd (grant_slash e)
+      at None e = absurd (grant_rest e)
       at (Some r) e = let k = subst (Cut 47 field front) e c in (grant_parts field front r.now g k.0 k.1 w).0
 
 -- a field says one plan at most

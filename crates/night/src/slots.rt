@@ -28,6 +28,7 @@ struct Shown(Word);
 impl fmt::Display for Shown {
     fn fmt<W: fmt::Write>(&self, f: &mut fmt::Formatter<W>) -> fmt::Result {
         match self.0 {
+            // in columns, for which a grant's own `Display` takes no width
             Some(Grant { bay, amps }) => write!(f, "{bay:>3}/{amps}"),
             None => write!(f, "     -"),
         }

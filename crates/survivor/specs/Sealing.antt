@@ -8,7 +8,7 @@ use Rattle.structure.specs.Groups.{everyone, count, Within, within}
 use Rattle.structure.proofs.Bits.{everyone_below, within_decides, meets_and, and_meets, shares_and, and_shares}
 use Rattle.structure.proofs.Members.{ones_count}
 use Rattle.structure.proofs.Masks.{shares?}
-use Rattle.cores.specs.Sharing.{ThreesShare, threes_share, SplitsKeepACore}
+use Rattle.cores.specs.Sharing.{ThreesShare, threes_share, SplitsKeepACore, Inside}
 use Rattle.cores.specs.Leads.{Wiring, leading_core, meets_all, any}
 use Rattle.cores.proofs.Leads.{Best, best_none, best_takes, best_keeps, best_done, leading_leads, leading_unique}
 use Rattle.cores.proofs.Tests.{meets_all_decides, contains_decides, threes_share_decides}
@@ -16,7 +16,6 @@ use Rattle.cores.proofs.Wordings.{wordings_agree}
 use Rattle.survivor.specs.declared.tables.Draft.{Draft}
 use Rattle.survivor.specs.Drafts.{size_of, sets_of}
 use Rattle.survivor.specs.Seals.{sealing, NothingShared}
-use Rattle.cores.specs.Sharing.{Inside}
 
 inside_of : (d : Draft) (xs : List ℕ) → xs ≡ sets_of d → Inside (size_of d) xs
 inside_of d xs e = subst (λ v. Inside (size_of d) v) (sym e) d.inside

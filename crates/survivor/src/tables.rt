@@ -2,11 +2,11 @@
 //!
 //! The sets are the first `count` of the array, and the leads the first `phases` of theirs: drafts and tables are `Copy`, which
 //! a list with a length of its own is not. What the methods answer is said by `specs/`, which names these types and so
-//! cannot be cited here: the methods stand in `drafts` and `seals`.
+//! cannot be cited here: the methods stand in `drafts` and `seals`. Their clauses name size and sets each time, by `size_of` and
+//! `sets_of`: seen by a model, a draft would lose the ghost fields that a table's laws are proved by.
 ghost use Rattle.std.specs.Prelude.{◌≡◌, ◌<◌, ◌≤◌, length, take};
 ghost use Rattle.cores.specs.Leads.{table};
-ghost use Rattle.cores.specs.Sharing.{ThreesShare};
-ghost use Rattle.cores.specs.Sharing.{NoneEmpty, Inside};
+ghost use Rattle.cores.specs.Sharing.{ThreesShare, NoneEmpty, Inside};
 ghost use Rattle.survivor.specs.Sets.{Incomparable};
 
 use structure::Group;

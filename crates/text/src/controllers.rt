@@ -32,6 +32,9 @@ fn hear<D: Driven>(
     }
 }
 
+// `open_plans` and `open_board` read other settings, and `offer` and `hear` other fields for other calls: what they share is above, and
+// in `open`.
+
 impl Yard {
     /// Opens a controller with this duty on the table, in place of any that stood.
     fn open<D: Driven>(&mut self, table: Table, duty: D, first: D::Value) -> Result<Reply, Fault>

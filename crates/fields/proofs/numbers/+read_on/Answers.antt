@@ -1,5 +1,4 @@
-use Rattle.fields.specs.Numerals.{facts}
-use Rattle.fields.specs.Numerals.{at_end, one_more, stops}
+use Rattle.fields.specs.Numerals.{facts, at_end, one_more, stops}
 use Rattle.fields.proofs.numbers.+read_on.Goals as goal
 
 pub returns-in-empty : goal.returns-in-empty
