@@ -1,3 +1,5 @@
+//! The calls of a controller. Each clause names the structure, the duty and the kind of values, since a controller's type does not
+//! say which of their meanings it runs on.
 ghost use Rattle.std.specs.Prelude.{◌≡◌, Result};
 ghost use Rattle.duty.specs.Taking.{Takes};
 ghost use Rattle.engine.specs.Controllers.{slot_stage, due};
