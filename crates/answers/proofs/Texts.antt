@@ -1,5 +1,5 @@
 -- The texts of an answer, from their parts, and how long they are.
-use Rattle.std.proofs.Common.{◌≡◌, ℕ, ◌^◌, ◌<◌, ◌≤◌, Bool, true, false, List, [], ◌∷◌, ◌++◌, length, codes, Result, sym, refl, ap, ◌∙◌, subst, arith, length-append}
+use Rattle.std.proofs.Common.{◌≡◌, ℕ, ◌+◌, ◌^◌, ◌<◌, ◌≤◌, Bool, true, false, List, [], ◌∷◌, ◌++◌, length, codes, Result, sym, refl, ap, ◌∙◌, subst, arith, length-append}
 use Rattle.depot.specs.declared.values.Grant.{Grant}
 use Rattle.depot.specs.declared.values.Plan.{Plan}
 use Rattle.duty.specs.Outcomes.{is_taken}
@@ -8,65 +8,66 @@ use Rattle.fields.specs.Numbers.{numeral}
 use Rattle.fields.specs.Values.{plan_text}
 use Rattle.survivor.specs.Seals.{meaning_of}
 use Rattle.survivor.specs.declared.tables.Table.{Table}
-use Rattle.answers.specs.Answers.{clip, after_tab, leads_text, value_text, taken_text, reply_text, fault_text, came_text, rendered}
+use Rattle.answers.specs.Answers.{Adds, after_tab, leads_text, value_text, taken_text, reply_text, fault_text, came_text, rendered}
 use Rattle.answers.specs.Faults.{number, detail}
 use Rattle.answers.specs.declared.faults.Fault.{Fault}
 use Rattle.answers.specs.declared.replies.Agreed.{Agreed}
 use Rattle.answers.specs.declared.replies.Agreed.TheVariants as agreed
 use Rattle.answers.specs.declared.replies.Reply.{Reply}
 use Rattle.answers.specs.declared.replies.Reply.TheVariants.{Sealed, Round, Closed}
-use Rattle.answers.proofs.Clips.{clip_short, then}
+use Rattle.answers.proofs.Clips.{then}
 use Rattle.answers.proofs.Leads.{leads_short}
 use Rattle.answers.proofs.Numerals.{length_8, length_32, length_64}
 
--- b is a and then the text, which has at most k bytes
-abbrev pub Adds : List ℕ → List ℕ → ℕ → List ℕ → Type 0
-Adds a b k text = (b ≡ clip (a ++ text)) × (length text ≤ k)
+-- the text, which has at most k bytes, is added
+abbrev pub AddsShort : List ℕ → List ℕ → ℕ → List ℕ → Type 0
+AddsShort a b k text = (Adds a text b) × (length text ≤ k)
 
 -- ---- an agreed value
-pub adds_plan : (a b : List ℕ) (v : Agreed) (p : Plan) → v ≡ agreed.Plan p → p.0 < 2 ^ 32 → b ≡ clip (a ++ plan_text p) → Adds a b 21 (value_text v)
-adds_plan a b v p is fits h = subst (λ w. Adds a b 21 (value_text w)) (sym is) (h, omega (arith, length_32 p.0 fits))
+pub adds_plan : (a b : List ℕ) (v : Agreed) (p : Plan) → v ≡ agreed.Plan p → p.0 < 2 ^ 32 → Adds a (plan_text p) b → AddsShort a b 21 (value_text v)
+adds_plan a b v p is fits h = subst (λ w. AddsShort a b 21 (value_text w)) (sym is) (h, omega (arith, length_32 p.0 fits))
 
-pub adds_grant : (a b c d : List ℕ) (v : Agreed) (g : Grant) → v ≡ agreed.Grant g → g.bay < 2 ^ 32 → g.amps < 2 ^ 32 → b ≡ clip (a ++ numeral g.bay) → c ≡ clip (b ++ 47 ∷ []) → d ≡ clip (c ++ numeral g.amps) → Adds a d 21 (value_text v)
+pub adds_grant : (a b c d : List ℕ) (v : Agreed) (g : Grant) → v ≡ agreed.Grant g → g.bay < 2 ^ 32 → g.amps < 2 ^ 32 → Adds a (numeral g.bay) b → Adds b (47 ∷ []) c → Adds c (numeral g.amps) d → AddsShort a d 21 (value_text v)
 adds_grant a b c d v g is bay amps p q r =
     let slash = then b c d (47 ∷ []) (numeral g.amps) q r in
     let all = then a b d (numeral g.bay) (47 ∷ numeral g.amps) p slash in
-    subst (λ w. Adds a d 21 (value_text w)) (sym is) (all, omega (arith, length_32 g.bay bay, length_32 g.amps amps, length-append (numeral g.bay) (47 ∷ numeral g.amps)))
+    subst (λ w. AddsShort a d 21 (value_text w)) (sym is) (all, omega (arith, length_32 g.bay bay, length_32 g.amps amps, length-append (numeral g.bay) (47 ∷ numeral g.amps)))
 
 -- ---- a reply
-pub adds_sealed : (a b c : List ℕ) (r : Reply) (t : Table) → r ≡ Sealed t → b ≡ clip (a ++ codes "sealed") → c ≡ clip (b ++ leads_text (meaning_of t).leads) → Adds a c 44 (reply_text r)
+pub adds_sealed : (a b c : List ℕ) (r : Reply) (t : Table) → r ≡ Sealed t → Adds a (codes "sealed") b → Adds b (leads_text (meaning_of t).leads) c → AddsShort a c 44 (reply_text r)
 adds_sealed a b c r t is p q =
-    subst (λ s. Adds a c 44 (reply_text s)) (sym is) (then a b c (codes "sealed") (leads_text (meaning_of t).leads) p q, omega (arith, leads_short t))
+    subst (λ s. AddsShort a c 44 (reply_text s)) (sym is) (then a b c (codes "sealed") (leads_text (meaning_of t).leads) p q, omega (arith, leads_short t))
 
-pub adds_round : (a b c : List ℕ) (r : Reply) (k n : ℕ) → r ≡ Round k → k < 2 ^ 8 → n ≡ k → b ≡ clip (a ++ codes "round") → c ≡ clip (b ++ after_tab n) → Adds a c 44 (reply_text r)
+pub adds_round : (a b c : List ℕ) (r : Reply) (k n : ℕ) → r ≡ Round k → k < 2 ^ 8 → n ≡ k → Adds a (codes "round") b → Adds b (after_tab n) c → AddsShort a c 44 (reply_text r)
 adds_round a b c r k n is fits same p q =
-    subst (λ s. Adds a c 44 (reply_text s)) (sym is) (then a b c (codes "round") (after_tab n) p q ∙ ap (λ x. clip (a ++ (codes "round" ++ after_tab x))) same, omega (arith, length_8 k fits))
+    subst (λ s. AddsShort a c 44 (reply_text s)) (sym is) (subst (λ x. Adds a (codes "round" ++ after_tab x) c) same (then a b c (codes "round") (after_tab n) p q), omega (arith, length_8 k fits))
 
 taken_length : (b : Bool) → length (taken_text b) ≡ 5
 taken_length true = refl
 taken_length false = refl
 
 -- the outcome o is w, by whose word it is told
-pub adds_closed : (a b c d : List ℕ) (r : Reply) (v : Agreed) (o w : Outcome) → r ≡ Closed v o → o ≡ w → b ≡ clip (a ++ codes "closed\t") → Adds b c 21 (value_text v) → d ≡ clip (c ++ 9 ∷ taken_text (is_taken w)) → Adds a d 44 (reply_text r)
+pub adds_closed : (a b c d : List ℕ) (r : Reply) (v : Agreed) (o w : Outcome) → r ≡ Closed v o → o ≡ w → Adds a (codes "closed\t") b → AddsShort b c 21 (value_text v) → Adds c (9 ∷ taken_text (is_taken w)) d → AddsShort a d 44 (reply_text r)
 adds_closed a b c d r v o w is same p q s =
     let end = then b c d (value_text v) (9 ∷ taken_text (is_taken w)) q.0 s in
     let all = then a b d (codes "closed\t") (value_text v ++ (9 ∷ taken_text (is_taken w))) p end in
     let short : length (reply_text (Closed v w)) ≤ 44 = omega (arith, q.1, taken_length (is_taken w), length-append (value_text v) (9 ∷ taken_text (is_taken w))) in
-    subst (λ x. Adds a d 44 (reply_text x)) (sym (is ∙ ap (Closed v) same)) (all, short)
+    subst (λ x. AddsShort a d 44 (reply_text x)) (sym (is ∙ ap (Closed v) same)) (all, short)
 
 -- ---- a fault
-pub adds_fault : (a b c d : List ℕ) (f : Fault) (n m : ℕ) → n < 2 ^ 8 → m < 2 ^ 64 → n ≡ number f → m ≡ detail f → b ≡ clip (a ++ codes "refused") → c ≡ clip (b ++ after_tab n) → d ≡ clip (c ++ after_tab m) → Adds a d 44 (fault_text f)
+pub adds_fault : (a b c d : List ℕ) (f : Fault) (n m : ℕ) → n < 2 ^ 8 → m < 2 ^ 64 → n ≡ number f → m ≡ detail f → Adds a (codes "refused") b → Adds b (after_tab n) c → Adds c (after_tab m) d → AddsShort a d 44 (fault_text f)
 adds_fault a b c d f n m small fits is of p q r =
     let end = then b c d (after_tab n) (after_tab m) q r in
     let all = then a b d (codes "refused") (after_tab n ++ after_tab m) p end in
     let same : codes "refused" ++ (after_tab n ++ after_tab m) ≡ fault_text f = ap (λ x. codes "refused" ++ (after_tab x ++ after_tab m)) is ∙ ap (λ x. codes "refused" ++ (after_tab (number f) ++ after_tab x)) of in
-    subst (Adds a d 44) same (all, omega (arith, length_8 n small, length_64 m fits, length-append (after_tab n) (after_tab m)))
+    subst (AddsShort a d 44) same (all, omega (arith, length_8 n small, length_64 m fits, length-append (after_tab n) (after_tab m)))
 
 -- ---- the line: at most ten digits, a tab, the words and a line feed fit whole
-pub whole : (line : ℕ) (came : Result Reply Fault) (a b c d e : List ℕ) → line < 2 ^ 32 → a ≡ [] → b ≡ clip (a ++ numeral line) → c ≡ clip (b ++ 9 ∷ []) → Adds c d 44 (came_text came) → e ≡ clip (d ++ 10 ∷ []) → e ≡ rendered line came
+pub whole : (line : ℕ) (came : Result Reply Fault) (a b c d e : List ℕ) → line < 2 ^ 32 → a ≡ [] → Adds a (numeral line) b → Adds b (9 ∷ []) c → AddsShort c d 44 (came_text came) → Adds d (10 ∷ []) e → e ≡ rendered line came
 whole line came a b c d e fits none p q r s =
     let feed = then c d e (came_text came) (10 ∷ []) r.0 s in
     let words = then b c e (9 ∷ []) (came_text came ++ (10 ∷ [])) q feed in
     let all = then a b e (numeral line) (9 ∷ (came_text came ++ (10 ∷ []))) p words in
-    all ∙ ap (λ l. clip (l ++ rendered line came)) none
-    ∙ clip_short (rendered line came) (omega (arith, r.1, length_32 line fits, length-append (numeral line) (9 ∷ (came_text came ++ (10 ∷ []))), length-append (came_text came) (10 ∷ [])))
+    let long = length-append (numeral line) (9 ∷ (came_text came ++ (10 ∷ []))) in
+    let short : length a + length (rendered line came) ≤ 64 = omega (arith, r.1, length_32 line fits, long, length-append (came_text came) (10 ∷ []), ap length none) in
+    all short ∙ ap (λ l. l ++ rendered line came) none

@@ -1,5 +1,5 @@
 -- What an answer reads. A tab is byte 9, a line feed byte 10.
-use Rattle.std.specs.Prelude.{ℕ, Bool, true, false, List, [], ◌∷◌, ◌++◌, take, Ok, Err, codes, Result}
+use Rattle.std.specs.Prelude.{◌≡◌, ℕ, ◌+◌, ◌≤◌, Bool, true, false, List, [], ◌∷◌, ◌++◌, length, Ok, Err, codes, Result}
 use Rattle.std.specs.List.{flat_map}
 use Rattle.duty.specs.Outcomes.{is_taken}
 use Rattle.fields.specs.Numbers.{numeral}
@@ -15,11 +15,11 @@ use Rattle.answers.specs.declared.replies.Reply.TheVariants.{Done, Sealed, Round
 
 -- the bytes of an answer
 abbrev pub shown : Answer → List ℕ
-shown a = take a.len a.bytes
+shown a = a.text.bytes
 
--- what an answer has room for
-unfoldable pub clip : List ℕ → List ℕ
-clip bytes = take 64 bytes
+-- what an answer has room for: with the text added to what is shown there is this, where all of it fits
+abbrev pub Adds : List ℕ → List ℕ → List ℕ → Type 0
+Adds before text after = length before + length text ≤ 64 → after ≡ before ++ text
 
 -- a tab, and the numeral of a number
 abbrev pub after_tab : ℕ → List ℕ

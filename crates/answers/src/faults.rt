@@ -7,31 +7,38 @@ use depot::SettingsRefusal;
 use duty::DutyRefusal;
 use engine::RowRefusal;
 use fields::FieldFault;
-use std::error::Error;
-use std::fmt;
 use survivor::DraftRefusal;
+use thiserror::Error;
 
 /// Why a line was refused: by its own form, or by the layer below, whose fault is kept whole.
-#[derive(Clone, Copy, PartialEq, Eq, Debug)]
+#[derive(Clone, Copy, PartialEq, Eq, Debug, Error)]
 pub enum Fault {
     /// 7: the line has more than 256 bytes.
+    #[error("the line has more than 256 bytes")]
     TooLong,
     /// 7: the field is faulty, missing or surplus.
+    #[error(transparent)]
     Field(FieldFault),
     /// 16: the line needs a draft, a sealed table or a controller that is not there.
+    #[error("the line needs a draft, a sealed table or a controller that is not there")]
     Absent,
     /// 1, 2 or 11 to 14: the draft refused it.
+    #[error(transparent)]
     Draft(DraftRefusal),
     /// 6: the duty's settings are out of range.
+    #[error(transparent)]
     Settings(SettingsRefusal),
     /// 4: the duty refused the value.
+    #[error(transparent)]
     Duty(DutyRefusal),
     /// 3: the controller refused the row.
+    #[error(transparent)]
     Row(RowRefusal),
 }
 
 /// A refused line: which, and why.
-#[derive(Clone, Copy, PartialEq, Eq, Debug)]
+#[derive(Clone, Copy, PartialEq, Eq, Debug, Error)]
+#[error("line {line}: {fault}")]
 pub struct Refusal {
     pub line: u32,
     pub fault: Fault,
@@ -64,33 +71,6 @@ impl Fault {
         }
     }
 }
-
-impl fmt::Display for Fault {
-    fn fmt<W: fmt::Write>(&self, f: &mut fmt::Formatter<W>) -> fmt::Result {
-        match self {
-            Fault::TooLong => write!(f, "the line has more than 256 bytes"),
-            Fault::Field(fault) => write!(f, "{fault}"),
-            Fault::Absent => write!(
-                f,
-                "the line needs a draft, a sealed table or a controller that is not there"
-            ),
-            Fault::Draft(refusal) => write!(f, "{refusal}"),
-            Fault::Settings(refusal) => write!(f, "{refusal}"),
-            Fault::Duty(refusal) => write!(f, "{refusal}"),
-            Fault::Row(refusal) => write!(f, "{refusal}"),
-        }
-    }
-}
-
-impl Error for Fault {}
-
-impl fmt::Display for Refusal {
-    fn fmt<W: fmt::Write>(&self, f: &mut fmt::Formatter<W>) -> fmt::Result {
-        write!(f, "line {}: {}", self.line, self.fault)
-    }
-}
-
-impl Error for Refusal {}
 
 // The `From` of each layer's fault is written out, since clauses name the fault that `?` makes of it: a derived one has no contract.
 

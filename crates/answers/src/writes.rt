@@ -1,12 +1,13 @@
-//! How an answer is written. A private call that adds bytes adds those that there is room for.
+//! How an answer is written. A private call that adds a text adds it if there is room for all of it.
 ghost use Rattle.std.specs.Prelude.{◌≡◌, ◌≤◌, [], ◌∷◌, ◌++◌, length};
 ghost use Rattle.fields.specs.Numbers.{numeral};
 ghost use Rattle.survivor.specs.Seals.{meaning_of};
-ghost use Rattle.answers.specs.Answers.{shown, clip, after_tab, leads_text, value_text, reply_text, fault_text, came_text, rendered};
+ghost use Rattle.answers.specs.Answers.{shown, Adds, after_tab, leads_text, value_text, reply_text, fault_text, came_text, rendered};
 
 use crate::answers::Answer;
 use crate::faults::Fault;
 use crate::replies::{Agreed, Reply};
+use arrayvec::ArrayString;
 use duty::Outcome;
 use itoa::Buffer;
 use survivor::Table;
@@ -17,8 +18,7 @@ impl Answer {
         ensures { shown result ≡ [] }
     {
         Answer {
-            bytes: [0; 64],
-            len: 0,
+            text: ArrayString::new(),
         }
     }
 
@@ -26,37 +26,34 @@ impl Answer {
     pub fn as_bytes(&self) -> &[u8]
         ensures { result.now ≡ shown self.now }
     {
-        &self.bytes[0..self.len]
+        self.text.as_str().as_bytes()
     }
 
-    /// Adds bytes.
-    fn push(&mut self, more: &[u8])
-        ensures { shown self.new ≡ clip (shown self.old ++ more.now) }
+    /// Adds a text.
+    fn push(&mut self, more: &str)
+        ensures { Adds (shown self.old) more.now (shown self.new) }
     {
-        let at = self.len;
-        let end = at + more.len().min(64 - at);
-        self.bytes[at..end].copy_from_slice(&more[..end - at]);
-        self.len = end;
+        let _ = self.text.try_push_str(more);
     }
 
     /// Adds a number's numeral.
     fn push_number(&mut self, n: usize)
-        ensures { shown self.new ≡ clip (shown self.old ++ numeral n) }
+        ensures { Adds (shown self.old) (numeral n) (shown self.new) }
     {
-        self.push(Buffer::new().format(n).as_bytes());
+        self.push(Buffer::new().format(n));
     }
 
     /// Adds a tab and a number's numeral.
     fn push_after_tab(&mut self, n: usize)
-        ensures { shown self.new ≡ clip (shown self.old ++ after_tab n) }
+        ensures { Adds (shown self.old) (after_tab n) (shown self.new) }
     {
-        self.push(b"\t");
+        self.push("\t");
         self.push_number(n);
     }
 
     /// Adds each lead of a table after a tab.
     fn push_leads(&mut self, table: &Table)
-        ensures { shown self.new ≡ clip (shown self.old ++ leads_text (meaning_of table.now).leads) }
+        ensures { Adds (shown self.old) (leads_text (meaning_of table.now).leads) (shown self.new) }
     {
         for lead in table.leads() {
             self.push_after_tab(usize::from(*lead));
@@ -65,14 +62,14 @@ impl Answer {
 
     /// Adds the text of an agreed value.
     fn push_value(&mut self, value: &Agreed)
-        ensures after { shown self.new ≡ clip (shown self.old ++ value_text value.now) }
+        ensures after { Adds (shown self.old) (value_text value.now) (shown self.new) }
         ensures short { length (value_text value.now) ≤ 21 }
     {
         match value {
             Agreed::Plan(plan) => self.push_number(plan.0 as usize),
             Agreed::Grant(grant) => {
                 self.push_number(grant.bay as usize);
-                self.push(b"/");
+                self.push("/");
                 self.push_number(grant.amps as usize);
             }
         }
@@ -80,25 +77,25 @@ impl Answer {
 
     /// Adds the words of a reply.
     fn push_reply(&mut self, reply: &Reply)
-        ensures after { shown self.new ≡ clip (shown self.old ++ reply_text reply.now) }
+        ensures after { Adds (shown self.old) (reply_text reply.now) (shown self.new) }
         ensures short { length (reply_text reply.now) ≤ 44 }
     {
         match reply {
-            Reply::Done => self.push(b"ok"),
+            Reply::Done => self.push("ok"),
             Reply::Sealed(table) => {
-                self.push(b"sealed");
+                self.push("sealed");
                 self.push_leads(table);
             }
             Reply::Round(round) => {
-                self.push(b"round");
+                self.push("round");
                 self.push_after_tab(usize::from(*round));
             }
             Reply::Closed(value, outcome) => {
-                self.push(b"closed\t");
+                self.push("closed\t");
                 self.push_value(value);
                 match outcome {
-                    Outcome::Taken => self.push(b"\ttaken"),
-                    Outcome::Aside(_) => self.push(b"\taside"),
+                    Outcome::Taken => self.push("\ttaken"),
+                    Outcome::Aside(_) => self.push("\taside"),
                 }
             }
         }
@@ -106,17 +103,17 @@ impl Answer {
 
     /// Adds the words of a fault.
     fn push_fault(&mut self, fault: Fault)
-        ensures after { shown self.new ≡ clip (shown self.old ++ fault_text fault) }
+        ensures after { Adds (shown self.old) (fault_text fault) (shown self.new) }
         ensures short { length (fault_text fault) ≤ 44 }
     {
-        self.push(b"refused");
+        self.push("refused");
         self.push_after_tab(usize::from(fault.number()));
         self.push_after_tab(fault.detail());
     }
 
     /// Adds the words of what came of a line.
     fn push_came(&mut self, came: &Result<Reply, Fault>)
-        ensures after { shown self.new ≡ clip (shown self.old ++ came_text came.now) }
+        ensures after { Adds (shown self.old) (came_text came.now) (shown self.new) }
         ensures short { length (came_text came.now) ≤ 44 }
     {
         match came {
@@ -131,9 +128,9 @@ impl Answer {
     {
         let mut answer = Answer::none();
         answer.push_number(line as usize);
-        answer.push(b"\t");
+        answer.push("\t");
         answer.push_came(came);
-        answer.push(b"\n");
+        answer.push("\n");
         answer
     }
 }

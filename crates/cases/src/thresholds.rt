@@ -1,20 +1,22 @@
 //! Threshold structures.
 
+use crate::drafts::Listed;
 use std::io;
 use structure::Structure;
 use threshold::{Threshold, greatest_faults};
 
 fn make(rt: &HostRuntime, n: u32, t: u32) -> io::Result<()> {
-    print!(rt; "threshold n {n}, t {t}: ")?;
     match Threshold::new(n, t) {
         Ok(yard) => {
-            print!(rt; "stands, leads")?;
-            for lead in (0..17).map_while(|place| yard.lead(place)) {
-                print!(rt; " {lead}")?;
-            }
-            println!(rt)
+            let leads: Vec<u8> = (0..17)
+                .map_while(|place| yard.lead(place))
+                .collect(rt.alloc())?;
+            println!(rt;
+                "threshold n {n}, t {t}: stands, leads{}",
+                Listed(leads.as_slice())
+            )
         }
-        Err(refusal) => println!(rt; "refused {}", refusal.number()),
+        Err(refusal) => println!(rt; "threshold n {n}, t {t}: refused {}", refusal.number()),
     }
 }
 

@@ -1,4 +1,4 @@
-//! The board as a duty, and what it shows.
+//! The board as a duty, and what it shows. Its clauses name `settings_of` and `content_of`, which are the duty's own members.
 ghost use Rattle.std.specs.Prelude.{◌≡◌, ℕ, ◌+◌, ◌≤◌, true, List, Ok, sum};
 ghost use Rattle.duty.specs.Taking.{Takes};
 ghost use Rattle.duty.specs.declared.outcomes.Outcome.TheVariants.{Aside};

@@ -2,13 +2,13 @@
 ghost use Rattle.std.specs.Prelude.{◌≡◌};
 ghost use Rattle.depot.specs.Refusals.{number};
 
-use std::error::Error;
-use std::fmt;
+use thiserror::Error;
 
 /// Why the settings of a duty are refused.
-#[derive(Clone, Copy, PartialEq, Eq, Debug)]
+#[derive(Clone, Copy, PartialEq, Eq, Debug, Error)]
 pub enum SettingsRefusal {
     /// 6: a setting is out of its range.
+    #[error("a setting is out of its range")]
     OutOfRange,
 }
 
@@ -22,13 +22,3 @@ impl SettingsRefusal {
         }
     }
 }
-
-impl fmt::Display for SettingsRefusal {
-    fn fmt<W: fmt::Write>(&self, f: &mut fmt::Formatter<W>) -> fmt::Result {
-        f.write_str(match self {
-            SettingsRefusal::OutOfRange => "a setting is out of its range",
-        })
-    }
-}
-
-impl Error for SettingsRefusal {}

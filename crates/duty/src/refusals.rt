@@ -2,13 +2,13 @@
 ghost use Rattle.std.specs.Prelude.{◌≡◌};
 ghost use Rattle.duty.specs.Refusals.{number};
 
-use std::error::Error;
-use std::fmt;
+use thiserror::Error;
 
 /// Why a duty refuses a value.
-#[derive(Clone, Copy, PartialEq, Eq, Debug)]
+#[derive(Clone, Copy, PartialEq, Eq, Debug, Error)]
 pub enum DutyRefusal {
     /// 4: the value does not fit.
+    #[error("the value does not fit")]
     Unfit,
 }
 
@@ -22,13 +22,3 @@ impl DutyRefusal {
         }
     }
 }
-
-impl fmt::Display for DutyRefusal {
-    fn fmt<W: fmt::Write>(&self, f: &mut fmt::Formatter<W>) -> fmt::Result {
-        f.write_str(match self {
-            DutyRefusal::Unfit => "the value does not fit",
-        })
-    }
-}
-
-impl Error for DutyRefusal {}

@@ -45,11 +45,11 @@ impl<'a, 'w, S: Structure, D: Duty> Row<'a, 'w, S, D> {
     fn is_weighty(&self, value: &D::Value) -> bool
         ensures { result ≡ weighty (meaning_of self.now) (heard_row self.now) (D.Value.Same.code value.now) }
     {
-        if !self.duty.fits(value) {
-            return false;
-        }
-        let outside = everyone(self.structure.size()).saturating_sub(tally(self.words, value));
-        !self.structure.enough(outside)
+        let all = everyone(self.structure.size());
+        self.duty.fits(value)
+            && !self
+                .structure
+                .enough(all.saturating_sub(tally(self.words, value)))
     }
 
     /// The value at the lowest place that passes the test, or nothing.

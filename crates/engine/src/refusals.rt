@@ -2,13 +2,13 @@
 ghost use Rattle.std.specs.Prelude.{◌≡◌};
 ghost use Rattle.engine.specs.Refusals.{number};
 
-use std::error::Error;
-use std::fmt;
+use thiserror::Error;
 
 /// Why a row was refused.
-#[derive(Clone, Copy, PartialEq, Eq, Debug)]
+#[derive(Clone, Copy, PartialEq, Eq, Debug, Error)]
 pub enum RowRefusal {
     /// 3: the row has not one word for each controller.
+    #[error("the row has not one word for each controller")]
     WrongLength,
 }
 
@@ -22,13 +22,3 @@ impl RowRefusal {
         }
     }
 }
-
-impl fmt::Display for RowRefusal {
-    fn fmt<W: fmt::Write>(&self, f: &mut fmt::Formatter<W>) -> fmt::Result {
-        f.write_str(match self {
-            RowRefusal::WrongLength => "the row has not one word for each controller",
-        })
-    }
-}
-
-impl Error for RowRefusal {}

@@ -1,7 +1,7 @@
 //! The fields of a line, one after another.
 ghost use Rattle.std.specs.Prelude.{◌≡◌, ℕ, List, length};
 ghost use Rattle.std.specs.Iterator.{at_most};
-ghost use Rattle.fields.specs.Fields.{GivesFirst, fields, left};
+ghost use Rattle.fields.specs.Fields.{GivesFirst, left};
 
 use crate::cuts::next_field;
 use std::marker::Model;
@@ -20,11 +20,12 @@ impl<'a> Model for Fields<'a> {
 }
 
 impl<'a> Fields<'a> {
-    /// The fields of a line: one more than it has tabs.
-    pub fn of(line: &'a [u8]) -> Fields<'a>
-        ensures { result ≡ fields line.now }
+    /// The bytes that are left of the line, if anything is.
+    pub fn rest(&self) -> Option<&'a [u8]>
+        ensures { left result ≡ self.now }
     {
-        Fields { rest: Some(line) }
+        let Self { rest } = self;
+        *rest
     }
 }
 

@@ -3,7 +3,7 @@ ghost use Rattle.std.specs.Prelude.{ℕ, ◌<◌};
 ghost use Rattle.fields.specs.Numbers.{Continues, Number};
 ghost use Rattle.fields.specs.Reading.{Reads, SaysOne};
 
-/// The number that further digits say after those of a number read so far.
+/// The number that further digits say after those of a number read so far. (By hand: `parse` takes needless zeros and a sign.)
 fn read_on(so_far: u32, bytes: &[u8]) -> Option<u32>
     requires { so_far < 100000 }
     ensures { Reads (Continues so_far) bytes.now result }

@@ -57,7 +57,7 @@ impl Value for Plan {
     ghost any = { (numeral 0, record { 0 = 0 }, zero_plan) };
 
     fn read(field: &[u8]) -> Option<Plan> {
-        Some(Plan(number(field)?))
+        number(field).map(Plan)
     }
 }
 

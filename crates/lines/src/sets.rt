@@ -20,11 +20,7 @@ fn with(group: Option<Group>, controller: u32) -> Option<Group>
     ensures { result ≡ with_controller group controller }
 {
     let group = group?;
-    if controller < 16 {
-        Some(group | (1 << controller))
-    } else {
-        None
-    }
+    (controller < 16).then(|| group | (1 << controller))
 }
 
 /// After `set`: rising controllers. Their group, or none where one is 16 or above, which no yard has.

@@ -55,6 +55,7 @@ pub fn show(rt: &HostRuntime) -> anyhow::Result<()> {
     println!(rt; "bay/amps answer")?;
     for grant in &grants {
         let answer = Answer(board.take(grant));
+        // in columns, for which a grant's own `Display` takes no width
         println!(rt; "{}/{:<6} {answer}", grant.bay, grant.amps)?;
     }
     println!(rt)?;

@@ -26,16 +26,29 @@ impl fmt::Display for Columns {
     }
 }
 
-/// The controllers of a yard that do not belong to a group, by number.
+/// The numbers of the controllers of a yard, over their columns.
 #[derive(Drop)]
-struct Others {
+struct Heads(u8);
+
+impl fmt::Display for Heads {
+    fn fmt<W: fmt::Write>(&self, f: &mut fmt::Formatter<W>) -> fmt::Result {
+        for i in 0..self.0 {
+            write!(f, " {i:>2}")?;
+        }
+        Ok(())
+    }
+}
+
+/// The controllers of a group in a yard, by number.
+#[derive(Drop)]
+struct Members {
     size: u8,
     group: Group,
 }
 
-impl fmt::Display for Others {
+impl fmt::Display for Members {
     fn fmt<W: fmt::Write>(&self, f: &mut fmt::Formatter<W>) -> fmt::Result {
-        for i in (0..self.size).filter(|i| !belongs(*i, self.group)) {
+        for i in (0..self.size).filter(|i| belongs(*i, self.group)) {
             write!(f, " {i}")?;
         }
         Ok(())
@@ -56,18 +69,17 @@ fn group_of(controllers: &[u8]) -> Group {
 /// Prints the sets of a draft: who stands in each, and who may fail together while it goes on.
 fn show_sets(rt: &HostRuntime, draft: &Draft) -> io::Result<()> {
     let size = draft.size();
-    print!(rt; "  controller")?;
-    for i in 0..size {
-        print!(rt; " {i:>2}")?;
-    }
-    println!(rt)?;
+    println!(rt; "  controller{}", Heads(size))?;
     for (place, &group) in (1..).zip(draft.sets()) {
         let members = Columns {
             size,
             group,
             mark: '#',
         };
-        let others = Others { size, group };
+        let others = Members {
+            size,
+            group: !group,
+        };
         println!(rt; "  set {place:<6}{members}   survives the failure of{others}")?;
     }
     Ok(())
@@ -99,18 +111,17 @@ fn seal(rt: &HostRuntime, n: u32, sets: &[Group]) -> anyhow::Result<()> {
 
 /// Prints who leads a sealed table, and what that makes of a slot.
 fn show_leads(rt: &HostRuntime, table: &Table) -> io::Result<()> {
-    let leads = table.leads();
+    let size = table.size();
+    let group = group_of(table.leads());
     let columns = Columns {
-        size: table.size(),
-        group: group_of(leads),
+        size,
+        group,
         mark: '^',
     };
     println!(rt; "  leads     {columns}")?;
-    print!(rt; "Sealed. The leads are")?;
-    for lead in leads {
-        print!(rt; " {lead}")?;
-    }
-    println!(rt; ": {} phases in a slot, one for each.", leads.len())
+    let leads = Members { size, group };
+    let phases = table.leads().len();
+    println!(rt; "Sealed. The leads are{leads}: {phases} phases in a slot, one for each.")
 }
 
 pub fn show(rt: &HostRuntime) -> anyhow::Result<()> {

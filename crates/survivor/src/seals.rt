@@ -12,7 +12,7 @@ use crate::tables::{Draft, Table};
 use structure::{Group, Structure, belongs, contains, everyone};
 
 /// The members of a group among the first `size` controllers, by rising number, and how many there are. (An array and a count,
-/// since a table, which keeps them, is `Copy`.)
+/// since a table, which keeps them, is `Copy` and stays so. To zip the places with the members would leave them to be counted.)
 fn list_members(size: u8, group: Group) -> ([u8; 16], usize)
     requires { size ≤ 16 }
     ensures { (take result.1 result.0 ≡ members size group) × (result.1 ≤ 16) }
@@ -29,7 +29,7 @@ fn list_members(size: u8, group: Group) -> ([u8; 16], usize)
 }
 
 impl Draft {
-    /// The places of three sets that share no controller.
+    /// The places of three sets that share no controller. (`find_map` within `find_map` twice over reads no plainer.)
     fn none_shared(&self) -> Option<(usize, usize, usize)>
         ensures { MatchOption result (ThreesShare (size_of self.now) (sets_of self.now)) (λ t. NothingShared (size_of self.now) (sets_of self.now) t.0 t.1 t.2) }
     {
@@ -54,7 +54,7 @@ impl Draft {
     }
 
     /// The core of least size, among equals the one with the least number: one pass over the groups of the yard. (`min_by_key` over
-    /// the groups that meet all sets would ask that of each group; here only smaller ones are asked, which is much faster.)
+    /// the groups that meet all sets would ask that of each group, where only smaller ones need be asked; a `fold` would carry the same two.)
     fn leading_core(&self) -> Group
         requires { 0 < length (sets_of self.now) }
         ensures { result ≡ leading_core (size_of self.now) (sets_of self.now) }
@@ -72,7 +72,7 @@ impl Draft {
         best
     }
 
-    /// Seals the draft into a table that the caller holds, which is written whole.
+    /// Seals the draft into a table that the caller holds, which is written whole: a host gives the memory of its tables itself.
     ///
     /// Refused, in this order: 13, the draft has no set; 14, three of its sets share no controller. A refused draft leaves
     /// the table as it was.

@@ -1,6 +1,6 @@
 //! A draft and a sealed table, each with what always holds of it.
 //!
-//! The sets are the first `count` of the array, and the leads the first `phases` of theirs: drafts and tables are `Copy`, which
+//! The sets are the first `count` of the array, and the leads the first `phases` of theirs: drafts and tables are `Copy` and stay so, which
 //! a list with a length of its own is not. What the methods answer is said by `specs/`, which names these types and so
 //! cannot be cited here: the methods stand in `drafts` and `seals`. Their clauses name size and sets each time, by `size_of` and
 //! `sets_of`: seen by a model, a draft would lose the ghost fields that a table's laws are proved by.

@@ -40,6 +40,7 @@ impl Yard {
     fn open<D: Driven>(&mut self, table: Table, duty: D, first: D::Value) -> Result<Reply, Fault>
         ensures { Opened D.Duty D.Value.Same D.Driven.agreed D.Driven.running table duty first self.old result self.new }
     {
+        // by arms, since one goes on and the other only tells
         match Controller::open(table, duty, first) {
             Ok(controller) => {
                 self.running = Some(D::running(controller));

@@ -24,10 +24,9 @@ impl Yard {
     pub(crate) fn add(&mut self, rest: Fields<'_>) -> Result<Reply, Fault>
         ensures { Adds self.old rest.entry result self.new }
     {
-        let mut draft = self.draft.ok_or(Fault::Absent)?;
+        let draft = self.draft.as_mut().ok_or(Fault::Absent)?;
         let set = read_set(rest)?.ok_or(DraftRefusal::EmptyOrOutside)?;
         draft.add(set)?;
-        self.draft = Some(draft);
         Ok(Reply::Done)
     }
 

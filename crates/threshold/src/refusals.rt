@@ -1,15 +1,16 @@
 ghost use Rattle.std.specs.Prelude.{◌≡◌};
 ghost use Rattle.threshold.specs.Refusals.{number};
 
-use std::error::Error;
-use std::fmt;
+use thiserror::Error;
 
 /// Why a call was refused.
-#[derive(Clone, Copy, PartialEq, Eq, Debug)]
+#[derive(Clone, Copy, PartialEq, Eq, Debug, Error)]
 pub enum ThresholdRefusal {
     /// 1: a yard has 1 to 16 controllers.
+    #[error("a yard has 1 to 16 controllers")]
     YardSize,
     /// 5: three times the fault number is the number of controllers or more.
+    #[error("three times the fault number is the number of controllers or more")]
     TooManyFaults,
 }
 
@@ -24,16 +25,3 @@ impl ThresholdRefusal {
         }
     }
 }
-
-impl fmt::Display for ThresholdRefusal {
-    fn fmt<W: fmt::Write>(&self, f: &mut fmt::Formatter<W>) -> fmt::Result {
-        f.write_str(match self {
-            ThresholdRefusal::YardSize => "a yard has 1 to 16 controllers",
-            ThresholdRefusal::TooManyFaults => {
-                "three times the fault number is the number of controllers or more"
-            }
-        })
-    }
-}
-
-impl Error for ThresholdRefusal {}

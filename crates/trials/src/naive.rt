@@ -1,4 +1,5 @@
-//! Survivor sets written down a second time, with a flag for each controller and no thought for speed.
+//! Survivor sets written down a second time, with no thought for speed, and with a flag for each controller: a set of numbers or
+//! bits would be the idea of the code that is tried.
 
 use std::alloc::{AllocError, Global};
 use std::array;

@@ -4,6 +4,7 @@ use crate::naive::{Flags, Naive};
 use depot::Plan;
 use duty::{DutyRefusal, Outcome};
 use engine::{Heard, RowRefusal};
+use std::array;
 
 /// A word: a plan, or nothing.
 pub type Word = Option<Plan>;
@@ -51,11 +52,7 @@ pub struct Plain {
 fn group<F: Fn(Word) -> bool>(words: &[Word], wanted: F) -> Flags
     requires { F.IsAlwaysCallable wanted }
 {
-    let mut group = [false; 16];
-    for (flag, word) in group.iter_mut().zip(words) {
-        *flag = wanted(*word);
-    }
-    group
+    array::from_fn(|place| words.get(place).is_some_and(|word| wanted(*word)))
 }
 
 impl Plain {

@@ -1,14 +1,14 @@
 //! How long sealing and hearing take, here and in the second implementation.
 
-use crate::naive::Naive;
+use crate::naive::{Naive, Unsealed};
 use crate::plain_rounds::{Answer, Plain, Word};
 use crate::tries::more;
 use anyhow::Context;
 use depot::{Plan, PlanBook};
 use engine::{Controller, Heard, Poll, Row};
 use std::alloc::{AllocError, Global};
-use std::io;
 use std::time::Instant;
+use std::{array, io};
 use structure::Group;
 use survivor::{Draft, Table};
 
@@ -45,9 +45,13 @@ fn sealing(rt: &HostRuntime, sets: &[Group]) -> anyhow::Result<Table> {
     )?;
     println!(rt; "sealed 100 times in {ours} us")?;
     let start = Instant::now(rt)?;
-    let sealed = naive.seal().is_ok();
+    let answer = match naive.seal() {
+        Ok(_) => 0,
+        Err(Unsealed::NoSet) => 13,
+        Err(Unsealed::NoneShared) => 14,
+    };
     let theirs = start.elapsed(rt)?.as_micros();
-    println!(rt; "second implementation, once (sealed: {sealed}), in {theirs} us")?;
+    println!(rt; "second implementation, once (answers {answer}), in {theirs} us")?;
     Ok(table)
 }
 
@@ -100,10 +104,7 @@ fn hearing(rt: &HostRuntime, table: &Table, name: &str, row: &[Word]) -> anyhow:
 pub fn measure(rt: &HostRuntime) -> anyhow::Result<()> {
     let sets = wide_sets(rt.alloc())?;
     let table = sealing(rt, sets.as_slice())?;
-    let mut different = [None; 16];
-    for (word, number) in different.iter_mut().zip(1..) {
-        *word = Some(Plan(number));
-    }
+    let different: [Option<Plan>; 16] = array::from_fn(|place| Some(Plan(place as u32 + 1)));
     hearing(rt, &table, "16 values", &different)?;
     hearing(rt, &table, "one value", &[Some(Plan(1)); 16])
 }

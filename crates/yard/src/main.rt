@@ -77,6 +77,7 @@ impl<'a, W: Write> Session<'a, W> {
 fn run(input: &mut impl Read, output: &mut impl Write) -> io::Result<()> {
     let mut block = [0u8; BLOCK];
     let mut session = Session::new(output);
+    // a bound that no input comes to: a loop that waits for input has no measure of its own
     for _ in 0..u64::MAX {
         let got = input.read(&mut block)?;
         if got == 0 {

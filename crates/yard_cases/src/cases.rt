@@ -49,10 +49,11 @@ impl Yards {
             return None;
         }
         let answer = self.without_refused.answer(line);
-        (after_number(shown(&answer)) != expected).then_some(Difference {
-            answer,
-            note: " (without the refused lines before it)",
-        })
+        if after_number(shown(&answer)) != expected {
+            let note = " (without the refused lines before it)";
+            return Some(Difference { answer, note });
+        }
+        None
     }
 }
 

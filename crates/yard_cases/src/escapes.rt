@@ -7,7 +7,7 @@ ghost use Rattle.std.specs.Prelude.{◌<◌, length, IfOk, IfSome};
 use anyhow::{Context, bail};
 use std::alloc::Global;
 
-/// The number of a digit in base 16.
+/// The number of a digit in base 16, in lower case only, which `char::to_digit` would not ask.
 fn hex_digit(byte: u8) -> anyhow::Result<u8> {
     match byte {
         b'0'..=b'9' => Ok(byte - b'0'),
@@ -44,7 +44,7 @@ fn read_one<'t>(bytes: &mut Vec<u8>, text: &'t [u8]) -> anyhow::Result<&'t [u8]>
     Ok(rest)
 }
 
-/// The number that digits say, as far as 32 bits go; no digits say 0.
+/// The number that digits say, as far as 32 bits go; no digits say 0, which `parse` would refuse.
 fn number(digits: &[u8]) -> anyhow::Result<u32> {
     let mut number = 0u32;
     for digit in digits {
@@ -68,6 +68,7 @@ fn read_repetition<'t>(bytes: &mut Vec<u8>, text: &'t [u8]) -> anyhow::Result<&'
     let times = number(digits)?;
     let (mut body, rest) = split_once(text, b'}').context("an escape without its end")?;
     let mut repeated = Vec::new(*bytes.allocator());
+    // `while`: how much a step reads, the step says
     while !body.is_empty() {
         body = read_one(&mut repeated, body)?;
     }
