@@ -1,8 +1,6 @@
 -- Lists of bays: their amps, summed or with one replaced.
 use Rattle.std.proofs.Common.{◌≡◌, ℕ, zero, suc, ◌+◌, ◌<◌, ◌≤◌, List, ◌∷◌, length, length-set, get_or, take, set, replicate, sum, sym, refl, ap, ◌∙◌}
 use Rattle.std.proofs.lemmas.List.{get_or-map, length-map, length-replicate, map-set, take-replicate}
-use Rattle.arrayvec.specs.ArrayVec.{ArrayVec, with_items}
-use Rattle.arrayvec.proofs.ArrayVecLemmas.{items-with_items}
 use Rattle.std.proofs.lemmas.List.Sums.{sum_by-cons, sum_by-set, get_or-le-sum_by}
 use Rattle.depot.specs.declared.bays.Bay.{Bay}
 use Rattle.depot.specs.Bays.{amps_of}
@@ -24,14 +22,9 @@ amps_new n bays few new =
     let same = new ∙ take-replicate n 64 (record { amps = 0 }) few in
     (ap length same ∙ length-replicate n (record { amps = 0 }), ap amps_of same ∙ zeros n)
 
--- the bays once one of them has other amps, and the vector that they are written back to
-pub amps_set : (before : ArrayVec Bay) (lent after : List Bay) (i y : ℕ) → lent ≡ before.items → after ≡ set lent i (record { amps = y }) →
-    (length (with_items before after).items ≡ length before.items) × (amps_of (with_items before after).items ≡ set (amps_of before.items) i y)
-amps_set before lent after i y is written =
-    let changed : after ≡ set before.items i (record { amps = y }) = written ∙ ap (λ bays. set bays i (record { amps = y })) is in
-    let same : length after ≡ length before.items = ap length changed ∙ length-set before.items i (record { amps = y }) in
-    let whole = items-with_items before after same in
-    (ap length whole ∙ same, ap amps_of (whole ∙ changed) ∙ map-set amps before.items i (record { amps = y }))
+-- the bays once one of them has other amps
+pub amps_set : (bays after : List Bay) (i y : ℕ) → after ≡ set bays i (record { amps = y }) → (length after ≡ length bays) × (amps_of after ≡ set (amps_of bays) i y)
+amps_set bays after i y is = (ap length is ∙ length-set bays i (record { amps = y }), ap amps_of is ∙ map-set amps bays i (record { amps = y }))
 
 module _ (bays : List Bay) (i : ℕ) (d : Bay) (inside : i < length bays) where
   here : i < length (amps_of bays)

@@ -8,11 +8,11 @@ use Rattle.depot.specs.Bays.{amps_of}
 use Rattle.depot.specs.Boards.{Settings, in_range, new_board}
 
 abbrev pub settings_of : Board → Settings
-settings_of b = record { bays = array_vec_len b.bays; feed = b.feed }
+settings_of b = record { bays = array_vec_len b.bays.records; feed = b.feed }
 
 -- the amps of each of the board's bays, in order
 abbrev pub content_of : Board → List ℕ
-content_of b = amps_of b.bays.items
+content_of b = amps_of b.bays.records.items
 
 -- with settings in range a new board, else a refusal with 6
 abbrev pub Made : Settings → Result Board SettingsRefusal → Type 0

@@ -8,7 +8,7 @@ ghost use Rattle.depot.specs.BoardCalls.{settings_of, content_of, Made};
 ghost use Rattle.depot.specs.Values.{grant_code};
 ghost use Rattle.depot.specs.BoardLaws.{Lasting};
 
-use crate::bays::{Bay, set_amps};
+use crate::bays::{Bay, Bays};
 use crate::boards::Board;
 use crate::refusals::SettingsRefusal;
 use crate::values::Grant;
@@ -27,16 +27,19 @@ impl Board {
         if bays == 0 || bays > 64 || feed > 32_000 {
             return Err(SettingsRefusal::OutOfRange);
         }
-        let mut list = ArrayVec::from([Bay { amps: 0 }; 64]);
-        list.truncate(bays as usize);
-        Ok(Board { feed, bays: list })
+        let mut records = ArrayVec::from([Bay { amps: 0 }; 64]);
+        records.truncate(bays as usize);
+        Ok(Board {
+            feed,
+            bays: Bays { records },
+        })
     }
 
     /// The bays, in order.
     pub fn bays(&self) -> &[Bay]
         ensures { amps_of result.now ≡ content_of self.now }
     {
-        self.bays.as_slice()
+        self.bays.records.as_slice()
     }
 
     /// The amps that the bays must not pass together.
@@ -68,7 +71,7 @@ impl Board {
         ensures value { result + grant.now.amps ≡ sum (replaced (content_of self.now) (grant_code grant.now)) }
         ensures within { result ≤ (settings_of self.now).feed }
     {
-        self.total() - self.bays[grant.bay as usize].amps
+        self.total() - self.bays.records[grant.bay as usize].amps
     }
 }
 
@@ -88,7 +91,7 @@ impl Duty for Board {
     ghost step = { grant_step };
 
     fn fits(&self, grant: &Grant) -> bool {
-        (grant.bay as usize) < self.bays.len() && grant.amps <= 1_000
+        (grant.bay as usize) < self.bays.records.len() && grant.amps <= 1_000
     }
 
     fn take(&mut self, grant: &Grant) -> Result<Outcome, DutyRefusal>
@@ -101,7 +104,7 @@ impl Duty for Board {
         if self.total_with(grant) > self.feed {
             return Ok(PAST_FEED);
         }
-        set_amps(&mut self.bays, grant.bay as usize, grant.amps);
+        self.bays.set_amps(grant.bay as usize, grant.amps);
         Ok(Outcome::Taken)
     }
 }

@@ -8,20 +8,19 @@ use Rattle.duty.specs.declared.values.Same.{Ghosts as Same}
 use Rattle.rounds.specs.Slots.{Stage}
 use Rattle.rounds.specs.Slots.Stage.{poll, confirm, lead, closed}
 use Rattle.engine.specs.declared.controllers.Controller.{Controller}
-use Rattle.engine.specs.declared.controllers.Slot.{Slot}
-use Rattle.engine.specs.declared.controllers.Slot.TheVariants.{Poll, Confirm, Lead}
+use Rattle.engine.specs.declared.controllers.Held.{Held}
+use Rattle.engine.specs.declared.controllers.Held.TheVariants.{Poll, Confirm, Lead}
 use Rattle.engine.specs.Rows.{fits_in}
-use Rattle.engine.specs.Stages.{poll_stage, confirm_stage, lead_stage}
+use Rattle.engine.specs.Words.{word_code}
 
--- the stage of a slot
-abbrev pub slot_stage : {V : Type 0} → Same V → Slot V → Stage
-slot_stage K (Poll s) = poll_stage K s
-slot_stage K (Confirm s) = confirm_stage K s
-slot_stage K (Lead s) = lead_stage K s
+abbrev pub held_stage : {V : Type 0} → Same V → ℕ → Held V → Stage
+held_stage K k (Poll x) = poll k (K.code x)
+held_stage K k (Confirm x y) = confirm k (K.code x) (word_code K y)
+held_stage K k (Lead z sure) = lead k (K.code z) sure
 
 -- the stage at which its slot stands
 abbrev pub stage_of : {S D V : Type 0} → Same V → Controller S D V → Stage
-stage_of K c = slot_stage K c.slot
+stage_of K c = held_stage K c.phase.number c.held
 
 -- the meaning of its structure
 abbrev pub runs_on : {S D V : Type 0} → Structure S → Controller S D V → Meaning

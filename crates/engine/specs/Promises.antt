@@ -62,7 +62,8 @@ module _ {S D V : Type 0} (M : Structure S) (G : Duty D V) (K : Same V) where
     -- a fitting proposal becomes the pending one, and nothing else changes
     pub structure : c'.structure ≡ c.structure
     pub duty : c'.duty ≡ c.duty
-    pub slot : c'.slot ≡ c.slot
+    pub held : c'.held ≡ c.held
+    pub phase : c'.phase ≡ c.phase
     pub stage : stage_of K c' ≡ stage_of K c
     pub taken : fits_on G c (K.code v) ≡ true → (r ≡ Ok tt) × (c'.pending ≡ v)
     -- an unfit one is refused with 4, and the whole controller stays

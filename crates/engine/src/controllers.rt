@@ -1,23 +1,25 @@
 //! A controller, and what it answers. `controlling` has its calls.
 
-use crate::stages::{Confirm, Lead, Poll};
+use crate::phases::Phase;
 use duty::{Duty, DutyRefusal, Outcome};
 use structure::Structure;
 
-/// A slot, by the stage at which it stands.
-#[derive(Drop)]
-pub(crate) enum Slot<V> {
-    Poll(Poll<V>),
-    Confirm(Confirm<V>),
-    Lead(Lead<V>),
+/// The stage at which a slot stands, with the values held. They lie here and not the stage itself, which a row uses up: a hearing copies
+/// them out, runs the stage made of them and writes the new case back, so a refused row has nothing to put back.
+#[derive(Clone, Copy)]
+pub(crate) enum Held<V> {
+    Poll { x: V },
+    Confirm { x: V, y: Option<V> },
+    Lead { z: V, sure: bool },
 }
 
-/// One controller of a yard: what it runs on, its slot, and the proposal for the next one.
+/// One controller of a yard: the stage at which its slot stands, what it runs on, and the proposal for the next slot.
 #[derive(Drop)]
 pub struct Controller<S: Structure, D: Duty> {
     pub(crate) structure: S,
     pub(crate) duty: D,
-    pub(crate) slot: Slot<D::Value>,
+    pub(crate) phase: Phase,
+    pub(crate) held: Held<D::Value>,
     pub(crate) pending: D::Value,
 }
 

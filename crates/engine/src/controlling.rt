@@ -2,15 +2,14 @@
 //! say which of their meanings it runs on.
 ghost use Rattle.std.specs.Prelude.{◌≡◌, Result};
 ghost use Rattle.duty.specs.Taking.{Takes};
-ghost use Rattle.engine.specs.Controllers.{slot_stage, due};
 ghost use Rattle.engine.specs.Promises.{Opens, Offers, Speaks, Hears, Settles};
 
-use crate::controllers::{Controller, Heard, Slot, Unopened};
+use crate::controllers::{Controller, Heard, Held, Unopened};
+use crate::phases::Phase;
 use crate::refusals::RowRefusal;
 use crate::rows::Row;
-use crate::stages::{Next, Poll};
-use duty::{Duty, DutyRefusal, Outcome, Same};
-use std::mem;
+use crate::stages::{Confirm, Lead, Next, Poll};
+use duty::{Duty, DutyRefusal, Outcome};
 use structure::Structure;
 
 /// Has the duty take a closed value. One that it refuses is set aside under the refusal's number.
@@ -20,19 +19,6 @@ fn settle<D: Duty>(duty: &mut D, value: &D::Value) -> Outcome
     match duty.take(value) {
         Ok(outcome) => outcome,
         Err(refusal) => Outcome::Aside(refusal.number()),
-    }
-}
-
-impl<V: Same> Slot<V> {
-    /// The number of the round that is due, from 1.
-    fn due(&self) -> u8
-        ensures { result ≡ due (slot_stage V.Same self.now) }
-    {
-        match self {
-            Slot::Poll(poll) => 3 * poll.phase.number + 1,
-            Slot::Confirm(confirm) => 3 * confirm.phase.number + 2,
-            Slot::Lead(lead) => 3 * lead.phase.number + 3,
-        }
     }
 }
 
@@ -53,7 +39,8 @@ impl<S: Structure, D: Duty> Controller<S, D> {
         Ok(Controller {
             structure,
             duty,
-            slot: Slot::Poll(Poll::open(first)),
+            phase: Phase::first(),
+            held: Held::Poll { x: first },
             pending: first,
         })
     }
@@ -73,10 +60,10 @@ impl<S: Structure, D: Duty> Controller<S, D> {
     pub fn speak(&self) -> Option<D::Value>
         ensures { Speaks S.Structure D.Duty D.Value.Same self.now result }
     {
-        match &self.slot {
-            Slot::Poll(poll) => poll.speak(),
-            Slot::Confirm(confirm) => confirm.speak(),
-            Slot::Lead(lead) => lead.speak(),
+        match self.held {
+            Held::Poll { x } => Some(x),
+            Held::Confirm { x: _, y } => y,
+            Held::Lead { z, sure: _ } => Some(z),
         }
     }
 
@@ -87,22 +74,41 @@ impl<S: Structure, D: Duty> Controller<S, D> {
     pub fn hear(&mut self, words: &[Option<D::Value>]) -> Result<Heard<D::Value>, RowRefusal>
         ensures { Hears S.Structure D.Duty D.Value.Same self.old words.now result self.new }
     {
+        let held = self.held;
+        let phase = self.phase;
         let row = Row::check(&self.structure, &self.duty, words)?;
-        // a row uses up the stage; meanwhile the next slot stands here, which stays where this one closes
-        let next_slot = Slot::Poll(Poll::open(self.pending));
-        self.slot = match mem::replace(&mut self.slot, next_slot) {
-            Slot::Poll(poll) => Slot::Confirm(poll.hear(&row)),
-            Slot::Confirm(confirm) => Slot::Lead(confirm.hear(&row)),
-            Slot::Lead(lead) => match lead.hear(&row) {
-                Next::Poll(poll) => Slot::Poll(poll),
+        match held {
+            Held::Poll { x } => {
+                let next = Poll { phase, x }.hear(&row);
+                self.held = Held::Confirm {
+                    x: next.x,
+                    y: next.y,
+                };
+                Ok(Heard::Round(3 * phase.number + 2))
+            }
+            Held::Confirm { x, y } => {
+                let next = Confirm { phase, x, y }.hear(&row);
+                self.held = Held::Lead {
+                    z: next.z,
+                    sure: next.sure,
+                };
+                Ok(Heard::Round(3 * phase.number + 3))
+            }
+            Held::Lead { z, sure } => match (Lead { phase, z, sure }).hear(&row) {
+                Next::Poll(poll) => {
+                    self.phase = poll.phase;
+                    self.held = Held::Poll { x: poll.x };
+                    Ok(Heard::Round(3 * phase.number + 4))
+                }
                 Next::Closed(closed) => {
                     let value = closed.value();
                     let outcome = settle(&mut self.duty, &value);
-                    return Ok(Heard::Closed(value, outcome));
+                    self.phase = Phase::first();
+                    self.held = Held::Poll { x: self.pending };
+                    Ok(Heard::Closed(value, outcome))
                 }
             },
-        };
-        Ok(Heard::Round(self.slot.due()))
+        }
     }
 
     /// The duty, with what the closed values made of it.
@@ -120,7 +126,8 @@ impl<S: Structure, D: Duty> Controller<S, D> {
         let Controller {
             structure,
             duty,
-            slot: _,
+            phase: _,
+            held: _,
             pending: _,
         } = self;
         (structure, duty)

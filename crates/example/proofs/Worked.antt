@@ -17,8 +17,8 @@ use Rattle.engine.specs.Words.{word_code, codes}
 use Rattle.engine.specs.declared.controllers.Controller.{Controller}
 use Rattle.engine.specs.declared.controllers.Heard.{Heard}
 use Rattle.engine.specs.declared.controllers.Heard.TheVariants.{Round, Closed}
-use Rattle.engine.specs.declared.controllers.Slot.{Slot}
-use Rattle.engine.specs.declared.controllers.Slot.TheVariants.{Poll, Confirm, Lead}
+use Rattle.engine.specs.declared.controllers.Held.{Held}
+use Rattle.engine.specs.declared.controllers.Held.TheVariants.{Poll, Confirm, Lead}
 use Rattle.engine.specs.declared.phases.Phase.{Phase}
 use Rattle.threshold.specs.Thresholds.{threshold}
 use Rattle.threshold.specs.declared.thresholds.Threshold.{Threshold}
@@ -81,14 +81,20 @@ plan_7 = record { highest = 9; in_force = 7; some = lit≤ tt; few = lit≤ tt; 
 abbrev phase : ℕ → Phase
 phase k = record { number = min k 15; few = omega arith }
 
-abbrev slot_of : Stage → Slot Plan
-slot_of (poll k c) = Poll (record { phase = phase k; x = plan_of c })
-slot_of (confirm k c w) = Confirm (record { phase = phase k; x = plan_of c; y = plan_word w })
-slot_of (lead k c b) = Lead (record { phase = phase k; z = plan_of c; sure = b })
-slot_of (closed c) = Poll (record { phase = phase 0; x = plan_of c })
+abbrev number_of : Stage → ℕ
+number_of (poll k c) = k
+number_of (confirm k c w) = k
+number_of (lead k c b) = k
+number_of (closed c) = 0
+
+abbrev held_of : Stage → Held Plan
+held_of (poll k c) = Poll (plan_of c)
+held_of (confirm k c w) = Confirm (plan_of c) (plan_word w)
+held_of (lead k c b) = Lead (plan_of c) b
+held_of (closed c) = Poll (plan_of c)
 
 abbrev standing : ℕ → Stage → PlanBook → Controller Threshold PlanBook Plan
-standing p s book = record { structure = four; duty = book; slot = slot_of s; pending = first p }
+standing p s book = record { structure = four; duty = book; phase = phase (number_of s); held = held_of s; pending = first p }
 
 -- p after t rows: five rounds of the slot, and then the close
 abbrev at : ℕ → ℕ → Controller Threshold PlanBook Plan

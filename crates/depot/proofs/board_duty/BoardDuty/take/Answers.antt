@@ -12,7 +12,7 @@ pub invariant_of-self : goal.invariant_of-self
 invariant_of-self c =
     let board = c.args.self.now in
     let grant = c.args.grant.now in
-    let (same, changed) = amps_set board.bays c.deref_mut.result.now c.set_amps.new.bays grant.bay grant.amps c.deref_mut.ensures.value c.set_amps.ensures.this_bay in
+    let (same, changed) = amps_set board.bays.records.items _ grant.bay grant.amps c.set_amps.ensures.this_bay in
     let total = ap sum changed in
     record { some = omega arith; few = omega arith; rated = board.rated; within = omega arith }
 
@@ -21,7 +21,7 @@ returns-clause-takes c =
     let board = c.args.self.now in
     let grant = c.args.grant.now in
     let s = settings_of board in
-    let (same, changed) = amps_set board.bays c.deref_mut.result.now c.set_amps.new.bays grant.bay grant.amps c.deref_mut.ensures.value c.set_amps.ensures.this_bay in
+    let (same, changed) = amps_set board.bays.records.items _ grant.bay grant.amps c.set_amps.ensures.this_bay in
     let fits : fitting s (grant_code grant) ≡ true = search rules in
     let stepped = step_within s (content_of board) (grant_code grant) (omega arith) in
     record {

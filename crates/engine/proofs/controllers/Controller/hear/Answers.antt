@@ -1,43 +1,38 @@
-use Rattle.std.proofs.Common.{◌≡◌, subst, sym, refl, ap, ◌∙◌}
-use Rattle.engine.specs.declared.controllers.Slot.{Slot}
-use Rattle.engine.specs.Controllers.{slot_stage}
-use Rattle.engine.specs.Stages.{lead_stage, next_stage}
-use Rattle.engine.specs.declared.controllers.Heard.TheVariants.{Closed}
+use Rattle.std.proofs.Common.{◌≡◌, refl, ap, subst}
+use Rattle.rounds.specs.Slots.{next}
+use Rattle.rounds.specs.Slots.Stage.{poll, confirm, lead}
+use Rattle.engine.specs.declared.controllers.Heard.TheVariants.{Round, Closed}
+use Rattle.engine.specs.Controllers.{held_stage}
 use Rattle.engine.specs.Promises.{Settles}
-use Rattle.engine.specs.Rows.{after_row}
-use Rattle.engine.proofs.Hearing.{same_but_slot, hears_moved, hears_round}
+use Rattle.engine.specs.Rows.{meaning_of, heard_row}
+use Rattle.engine.specs.Words.{word_code}
+use Rattle.engine.proofs.Hearing.{hears_moved}
 use Rattle.engine.proofs.controllers.Controller.hear.Goals as goal
-use Rattle.engine.proofs.controllers.Controller.hear.Goals.{in-Poll, in-Confirm, in-Lead+in-Poll-hear}
 
-pub returns : goal.returns
-returns g c =
+pub returns-in-Poll : goal.returns-in-Poll
+returns-in-Poll g c =
     let K = g.D.Value.Same in
+    let self = c.args.self.now in
+    let k = self.phase.number in
     let row = c.in_ok-row.row in
-    let from = λ (slot : Slot _). after_row row (slot_stage K slot) in
-    let stage : slot_stage K c.match-replace.self2 ≡ from c.args.self.now.slot = elim c.match-replace.branch [
-      | in-Poll w ↦ ap (slot_stage K) w.self2-is ∙ w.hear.ensures.stage ∙ ap from (sym w.in-Poll.is ∙ c.replace.ensures.value)
-      | in-Confirm w ↦ ap (slot_stage K) w.self2-is ∙ w.hear-in-Confirm.ensures.stage ∙ ap from (sym w.in-Confirm.is ∙ c.replace.ensures.value)
-      | in-Lead+in-Poll-hear w ↦ ap (slot_stage K) w.self2-is ∙ sym (ap (next_stage K) w.in-Poll-hear.is) ∙ w.hear-in-Lead.ensures.stage ∙ ap from (sym w.in-Lead.is ∙ c.replace.ensures.value)
-    ] in
-    let kept : (c.match-replace.self.structure ≡ c.args.self.now.structure) × (c.match-replace.self.pending ≡ c.args.self.now.pending) × (c.match-replace.self.duty ≡ c.args.self.now.duty) = elim c.match-replace.branch [
-      | in-Poll w ↦ same_but_slot c.args.self.now _ _ w.self-is
-      | in-Confirm w ↦ same_but_slot c.args.self.now _ _ w.self-is
-      | in-Lead+in-Poll-hear w ↦ same_but_slot c.args.self.now _ _ w.self-is
-    ] in
-    hears_round g.S.Structure g.D.Duty K c.args.self.now _ c.args.words.now row c.in_ok-row.ensures kept.0 kept.1 c.match-replace.self2 stage refl kept.2 c.due.result c.due.ensures
+    let e = c.hear-next.ensures.stage in
+    let s : confirm k (K.code c.hear-next.result.x) (word_code K c.hear-next.result.y)
+    ≡ next (meaning_of row) (poll k (K.code c.in-Poll.x)) (heard_row row) = cc in
+    hears_moved g.S.Structure g.D.Duty K self _ c.args.words.now row c.in_ok-row.ensures refl refl
+    (poll k (K.code c.in-Poll.x)) _ (Round _) (ap (held_stage K k) c.in-Poll.is) s (record { answer = refl; stage = refl; duty = refl })
 
 pub returns-in-Closed : goal.returns-in-Closed
 returns-in-Closed g c =
     let K = g.D.Value.Same in
     let self = c.args.self.now in
-    let code = ap K.code c.value-value.ensures in
+    let k = self.phase.number in
     hears_moved g.S.Structure g.D.Duty K self _ c.args.words.now c.in_ok-row.row c.in_ok-row.ensures refl refl
-    (lead_stage K c.in-Lead.lead) _ (Closed _ _) (ap (slot_stage K) (sym c.replace.ensures.value ∙ c.in-Lead.is)) (sym (ap (next_stage K) c.in-Closed.is) ∙ c.hear-in-Lead.ensures.stage)
+    (lead k (K.code c.in-Lead.z) c.in-Lead.sure) _ (Closed _ _) (ap (held_stage K k) c.in-Lead.is) c.in-Closed.ensures.stage
     (record {
       value = c.value-value.result;
       outcome = c.settle-outcome.result;
       answer = refl;
-      code = code;
-      settles = subst (λ v. Settles g.D.Duty self.duty v c.settle-outcome.result c.settle-outcome.new.duty) code c.settle-outcome.ensures;
-      stage = ap (slot_stage K) c.replace.ensures.after ∙ c.open.ensures.stage;
+      code = ap K.code c.value-value.ensures;
+      settles = subst (λ v. Settles g.D.Duty self.duty v c.settle-outcome.result c.settle-outcome.new.duty) (ap K.code c.value-value.ensures) c.settle-outcome.ensures;
+      stage = ap (λ i. poll i (K.code self.pending)) c.first-self.ensures;
     })
