@@ -32,7 +32,8 @@ impl<T: fmt::Display> fmt::Display for Listed<'_, T> {
     }
 }
 
-/// The sealed table of a yard of `n` with these sets.
+/// The sealed table of a yard of `n` with these sets. (Other programs draft theirs likewise: they share no crate, and tell of a refused
+/// set otherwise.)
 pub fn sealed(n: u32, sets: &[Group]) -> Result<Table, DraftRefusal> {
     let mut draft = Draft::new(n)?;
     for set in sets {

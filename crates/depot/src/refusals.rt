@@ -4,7 +4,7 @@ ghost use Rattle.depot.specs.Refusals.{number};
 
 use thiserror::Error;
 
-/// Why the settings of a duty are refused.
+/// Why the settings of a duty are refused: an error of this layer alone, though it has one case.
 #[derive(Clone, Copy, PartialEq, Eq, Debug, Error)]
 pub enum SettingsRefusal {
     /// 6: a setting is out of its range.

@@ -4,7 +4,7 @@ ghost use Rattle.duty.specs.Refusals.{number};
 
 use thiserror::Error;
 
-/// Why a duty refuses a value.
+/// Why a duty refuses a value: an error of this layer alone, though it has one case.
 #[derive(Clone, Copy, PartialEq, Eq, Debug, Error)]
 pub enum DutyRefusal {
     /// 4: the value does not fit.

@@ -4,7 +4,7 @@ ghost use Rattle.engine.specs.Refusals.{number};
 
 use thiserror::Error;
 
-/// Why a row was refused.
+/// Why a row was refused: an error of this layer alone, though it has one case.
 #[derive(Clone, Copy, PartialEq, Eq, Debug, Error)]
 pub enum RowRefusal {
     /// 3: the row has not one word for each controller.

@@ -12,6 +12,7 @@ pub fn tally<V: Same>(words: &[Option<V>], value: &V) -> Group
     ensures { result ≡ group (V.Same.code value.now) (codes V.Same (take 16 words.now)) }
 {
     let counted = &words[..words.len().min(16)];
+    // the mask is built in one loop over the row, by the place of each word
     let mut group = 0;
     for (i, word) in counted.iter().enumerate() {
         if says(word, value) {

@@ -5,7 +5,7 @@ use arrayvec::ArrayVec;
 use std::marker::Model;
 
 /// The first 17 words of a row, seen as the list of them. A yard has 16 controllers at most, so a row of 17 is too long, and so is a
-/// longer one.
+/// longer one. (The program `yard` keeps bytes in the same way; a row is given away whole, and they are let go again.)
 #[derive(Drop)]
 pub struct Words<V> {
     items: ArrayVec<Option<V>, 17>,

@@ -7,7 +7,7 @@ use std::marker::Model;
 /// How many bytes are read or written at a time.
 pub const BLOCK: usize = 65536;
 
-/// Up to `N` bytes, seen as the list of them.
+/// Up to `N` bytes, seen as the list of them. (The words of a row are kept in the same way, but never let go.)
 #[derive(Drop)]
 pub struct Kept<const N: usize> {
     bytes: ArrayVec<u8, N>,
