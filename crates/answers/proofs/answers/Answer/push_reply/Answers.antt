@@ -1,6 +1,5 @@
 use Rattle.std.proofs.Common.{arith}
-use Rattle.duty.specs.declared.outcomes.Outcome.TheVariants.{Taken, Aside}
-use Rattle.answers.proofs.Texts.{adds_sealed, adds_round, adds_closed}
+use Rattle.answers.proofs.Texts.{adds_sealed, adds_round}
 use Rattle.answers.proofs.answers.Answer.push_reply.Goals as goal
 
 pub returns-in-Sealed : goal.returns-in-Sealed
@@ -11,14 +10,4 @@ returns-in-Sealed c =
 pub returns-in-Round : goal.returns-in-Round
 returns-in-Round c =
     let h = adds_round _ _ _ _ c.in-Round.round _ c.in-Round.is (omega arith) c.from.ensures c.push-in-Round.ensures c.push_after_tab.ensures in
-    record { after = h.0; short = h.1 }
-
-pub returns-in-Taken : goal.returns-in-Taken
-returns-in-Taken c =
-    let h = adds_closed _ _ _ _ _ c.in-Closed.value c.in-Closed.outcome Taken c.in-Closed.is c.in-Taken.is c.push-in-Closed.ensures (c.push_value.ensures.after, c.push_value.ensures.short) c.push-in-Taken.ensures in
-    record { after = h.0; short = h.1 }
-
-pub returns-in-Aside : goal.returns-in-Aside
-returns-in-Aside c =
-    let h = adds_closed _ _ _ _ _ c.in-Closed.value c.in-Closed.outcome (Aside _) c.in-Closed.is c.in-Aside.is c.push-in-Closed.ensures (c.push_value.ensures.after, c.push_value.ensures.short) c.push-in-Aside.ensures in
     record { after = h.0; short = h.1 }

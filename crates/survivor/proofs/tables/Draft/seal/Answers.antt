@@ -1,10 +1,10 @@
-use Rattle.std.proofs.Common.{◌≡◌, ℕ, ◌<◌, true, false, eqb, List, length, sym, refl, ap, ◌∙◌, inl, inr, arith, rules}
+use Rattle.std.proofs.Common.{◌≡◌, ℕ, ◌<◌, true, false, eqb, List, length, sym, refl, ap, ◌∙◌, inl, inr, arith}
 use Rattle.std.proofs.lemmas.Bool.{cases_lt, eqb-false}
 use Rattle.structure.specs.Groups.{members}
 use Rattle.cores.proofs.Leads.{leading_leads}
 use Rattle.cores.proofs.Wordings.{wordings_agree}
 use Rattle.survivor.specs.Drafts.{sets_of}
-use Rattle.survivor.specs.Sealing.{by_splits, sealing_none, none_refused, sealing_done, done_sealed, threes_sharing, wiring}
+use Rattle.survivor.specs.Sealing.{by_splits, sealing_none, none_refused, sealing_done, done_sealed, wiring}
 use Rattle.survivor.proofs.tables.Draft.seal.Goals as goal
 
 pub returns-then-is_empty-clause-wordings : goal.returns-then-is_empty-clause-wordings
@@ -27,19 +27,6 @@ returns-in-Some-clause-wordings c = wordings_agree
 -- the list that was not empty
 some_set : (xs ys : List ℕ) → xs ≡ ys → false ≡ eqb (length xs) 0 → 0 < length ys
 some_set xs ys e t = let ne = eqb-false (length xs) 0 (sym t) in let h = ap length e in elim (cases_lt 0 (length ys)) [ inl l ↦ l | inr z ↦ absurd (ne (omega arith)) ]
-
-pub leading_core-requires : goal.leading_core-requires
-leading_core-requires c = some_set c.sets.result.now (sets_of c.args.self.now) c.sets.ensures c.if-is_empty.ensures
-
-pub invariant_of-table : goal.invariant_of-table
-invariant_of-table c =
-    let d = c.args.self.now in
-    record {
-      fit = search rules;
-      some = some_set c.sets.result.now (sets_of d) c.sets.ensures c.if-is_empty.ensures;
-      sharing = threes_sharing d.size (sets_of d) c.in_default.ensures;
-      led = c.list_members-phases.ensures.0 ∙ ap (members d.size) c.leading_core.ensures;
-    }
 
 pub returns-clause-answer : goal.returns-clause-answer
 returns-clause-answer c = let d = c.args.self.now in sealing_done d.size (sets_of d) (some_set c.sets.result.now (sets_of d) c.sets.ensures c.if-is_empty.ensures) c.in_default.ensures
