@@ -1,10 +1,6 @@
 -- What is added to an answer, one text after another.
-use Rattle.std.proofs.Common.{◌≡◌, ℕ, ◌+◌, List, [], ◌++◌, length, sym, ap, ◌∙◌, append_assoc, append-nil, arith, length-append}
+use Rattle.std.proofs.Common.{◌≡◌, ℕ, ◌+◌, List, ◌++◌, length, ap, ◌∙◌, append_assoc, arith, length-append}
 use Rattle.answers.specs.Answers.{Adds}
-
--- nothing added to what is there
-pub none_more : (a : List ℕ) → Adds a [] a
-none_more a h = sym (append-nil a)
 
 -- two after one another
 pub then : (a b c x y : List ℕ) → Adds a x b → Adds b y c → Adds a (x ++ y) c

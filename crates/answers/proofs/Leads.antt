@@ -1,7 +1,7 @@
 -- The leads of a table, each after a tab: one by one, and how long they are.
-use Rattle.std.proofs.Common.{◌≡◌, ℕ, zero, suc, ◌+◌, ◌*◌, ◌<◌, ◌≤◌, min, List, [], ◌∷◌, ◌++◌, length, get_or, take, sym, ap, subst, ◌∙◌, inl, inr, arith, length-append}
+use Rattle.std.proofs.Common.{◌≡◌, ℕ, zero, suc, ◌+◌, ◌*◌, ◌<◌, ◌≤◌, min, List, [], ◌∷◌, ◌++◌, length, sym, ap, ◌∙◌, inl, inr, arith, length-append}
 use Rattle.std.proofs.lemmas.Fmt.{length-decimal-le}
-use Rattle.std.proofs.lemmas.List.{flat_map_more, take_all, take_more}
+use Rattle.std.proofs.lemmas.List.{flat_map_more}
 use Rattle.std.proofs.lemmas.Bool.{cases_lt, cases_Bool}
 use Rattle.cores.specs.Leads.{leading_core}
 use Rattle.structure.specs.Groups.{has, members}
@@ -9,21 +9,10 @@ use Rattle.structure.proofs.Members.{members_in, members_out}
 use Rattle.survivor.specs.Drafts.{size_of, sets_of}
 use Rattle.survivor.specs.Seals.{draft_of, meaning_of}
 use Rattle.survivor.specs.declared.tables.Table.{Table}
-use Rattle.answers.specs.Answers.{Adds, after_tab, leads_text}
-use Rattle.answers.proofs.Clips.{then}
+use Rattle.answers.specs.Answers.{after_tab, leads_text}
 
 text_push : (leads : List ℕ) (n : ℕ) → leads_text (leads ++ n ∷ []) ≡ leads_text leads ++ after_tab n
 text_push leads n = sym (flat_map_more after_tab [] leads n)
-
--- one more lead
-pub lead_more : (a b c leads : List ℕ) (i n : ℕ) → i < length leads → n ≡ get_or leads i 0 → Adds a (leads_text (take i leads)) b → Adds b (after_tab n) c → Adds a (leads_text (take (i + 1) leads)) c
-lead_more a b c leads i n lt is p q =
-    let same : leads_text (take i leads) ++ after_tab n ≡ leads_text (take (i + 1) leads) = ap (λ x. leads_text (take i leads) ++ after_tab x) is ∙ sym (text_push (take i leads) (get_or leads i 0)) ∙ ap leads_text (sym (take_more leads i 0 lt)) in
-    subst (λ t. Adds a t c) same (then a b c (leads_text (take i leads)) (after_tab n) p q)
-
--- all of them
-pub leads_all : (a b items leads : List ℕ) (i : ℕ) → length items ≤ i → items ≡ leads → Adds a (leads_text (take i items)) b → Adds a (leads_text leads) b
-leads_all a b items leads i le is p = subst (λ l. Adds a (leads_text l) b) (take_all i items le ∙ is) p
 
 -- a controller below 10 takes two bytes, and any other three
 one_length : (n : ℕ) → n < 100 → length (after_tab n) + min (suc n) 10 ≤ 3 + min n 10

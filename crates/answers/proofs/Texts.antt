@@ -1,20 +1,18 @@
 -- The texts of an answer, from their parts, and how long they are.
-use Rattle.std.proofs.Common.{◌≡◌, ℕ, ◌+◌, ◌^◌, ◌<◌, ◌≤◌, Bool, true, false, List, [], ◌∷◌, ◌++◌, length, codes, Result, sym, refl, ap, ◌∙◌, subst, arith, length-append}
+use Rattle.std.proofs.Common.{◌≡◌, ℕ, ◌+◌, ◌^◌, ◌<◌, ◌≤◌, List, [], ◌∷◌, ◌++◌, length, codes, Result, sym, ap, ◌∙◌, subst, arith, length-append}
 use Rattle.depot.specs.declared.values.Grant.{Grant}
 use Rattle.depot.specs.declared.values.Plan.{Plan}
-use Rattle.duty.specs.Outcomes.{is_taken}
-use Rattle.duty.specs.declared.outcomes.Outcome.{Outcome}
 use Rattle.fields.specs.Numbers.{numeral}
 use Rattle.fields.specs.Values.{plan_text}
 use Rattle.survivor.specs.Seals.{meaning_of}
 use Rattle.survivor.specs.declared.tables.Table.{Table}
-use Rattle.answers.specs.Answers.{Adds, after_tab, leads_text, value_text, taken_text, reply_text, fault_text, came_text, rendered}
+use Rattle.answers.specs.Answers.{Adds, after_tab, leads_text, value_text, reply_text, fault_text, came_text, rendered}
 use Rattle.answers.specs.Faults.{number, detail}
 use Rattle.answers.specs.declared.faults.Fault.{Fault}
 use Rattle.answers.specs.declared.replies.Agreed.{Agreed}
 use Rattle.answers.specs.declared.replies.Agreed.TheVariants as agreed
 use Rattle.answers.specs.declared.replies.Reply.{Reply}
-use Rattle.answers.specs.declared.replies.Reply.TheVariants.{Sealed, Round, Closed}
+use Rattle.answers.specs.declared.replies.Reply.TheVariants.{Sealed, Round}
 use Rattle.answers.proofs.Clips.{then}
 use Rattle.answers.proofs.Leads.{leads_short}
 use Rattle.answers.proofs.Numerals.{length_8, length_32, length_64}
@@ -41,18 +39,6 @@ adds_sealed a b c r t is p q =
 pub adds_round : (a b c : List ℕ) (r : Reply) (k n : ℕ) → r ≡ Round k → k < 2 ^ 8 → n ≡ k → Adds a (codes "round") b → Adds b (after_tab n) c → AddsShort a c 44 (reply_text r)
 adds_round a b c r k n is fits same p q =
     subst (λ s. AddsShort a c 44 (reply_text s)) (sym is) (subst (λ x. Adds a (codes "round" ++ after_tab x) c) same (then a b c (codes "round") (after_tab n) p q), omega (arith, length_8 k fits))
-
-taken_length : (b : Bool) → length (taken_text b) ≡ 5
-taken_length true = refl
-taken_length false = refl
-
--- the outcome o is w, by whose word it is told
-pub adds_closed : (a b c d : List ℕ) (r : Reply) (v : Agreed) (o w : Outcome) → r ≡ Closed v o → o ≡ w → Adds a (codes "closed\t") b → AddsShort b c 21 (value_text v) → Adds c (9 ∷ taken_text (is_taken w)) d → AddsShort a d 44 (reply_text r)
-adds_closed a b c d r v o w is same p q s =
-    let end = then b c d (value_text v) (9 ∷ taken_text (is_taken w)) q.0 s in
-    let all = then a b d (codes "closed\t") (value_text v ++ (9 ∷ taken_text (is_taken w))) p end in
-    let short : length (reply_text (Closed v w)) ≤ 44 = omega (arith, q.1, taken_length (is_taken w), length-append (value_text v) (9 ∷ taken_text (is_taken w))) in
-    subst (λ x. AddsShort a d 44 (reply_text x)) (sym (is ∙ ap (Closed v) same)) (all, short)
 
 -- ---- a fault
 pub adds_fault : (a b c d : List ℕ) (f : Fault) (n m : ℕ) → n < 2 ^ 8 → m < 2 ^ 64 → n ≡ number f → m ≡ detail f → Adds a (codes "refused") b → Adds b (after_tab n) c → Adds c (after_tab m) d → AddsShort a d 44 (fault_text f)

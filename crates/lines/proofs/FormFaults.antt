@@ -6,7 +6,7 @@ use Rattle.depot.specs.declared.values.Plan.{Plan}
 use Rattle.fields.specs.Numbers.{numeral, Number}
 use Rattle.fields.specs.Values.{PlanText, GrantText, grant_text}
 use Rattle.lines.specs.Forms.{Departs, Ends, Read, field_number}
-use Rattle.lines.specs.Lines.{ControllersForm, SealForm, PlansForm, BoardForm, OfferForm}
+use Rattle.lines.specs.Lines.{SealForm, PlansForm, BoardForm, OfferForm}
 use Rattle.lines.proofs.Departures.{step, Wrong, no_value, surplus}
 
 -- the fault is at field k
@@ -48,12 +48,6 @@ module _ {V : Type 0} (Says : List ℕ → V → Type 0) where
   pub one_3 : (fs rest : List (List ℕ)) (f : List ℕ) (v : V) (k : ℕ) → Says f v → fs ≡ f ∷ rest → (k ≡ 3) × (rest ≡ [] → ⊥) → FaultAt (OfferForm Says) fs k
   one_3 fs rest f v k p is more =
       (1, omega (arith, more.0), step one f fs rest 0 is (surplus (λ ws. one (f ∷ ws)) rest (v, (f, refl, p)) (λ ws l. let e = l.1.1 in cc) more.1))
-
-pub number_2 : (fs : List (List ℕ)) (k : ℕ) → (k ≡ 2) × Wrong Number fs → FaultAt ControllersForm fs k
-number_2 = one_2 Number (numeral 0) 0 some_number
-
-pub number_3 : (fs rest : List (List ℕ)) (f : List ℕ) (n k : ℕ) → Number f n → fs ≡ f ∷ rest → (k ≡ 3) × (rest ≡ [] → ⊥) → FaultAt ControllersForm fs k
-number_3 = one_3 Number
 
 -- ---- `plans`
 abbrev plans : List (List ℕ) → Type 0

@@ -1,12 +1,10 @@
 -- What any line comes to.
-use Rattle.std.proofs.Common.{◌≡◌, ℕ, ◌≤◌, cond, eqb, List, ◌∷◌, length, get_or, Err, Result, sym, refl, ap, ◌∙◌, subst, arith}
+use Rattle.std.proofs.Common.{◌≡◌, ℕ, ◌≤◌, cond, eqb, List, ◌∷◌, length, get_or, Result, sym, refl, ap, ◌∙◌, subst, arith}
 use Rattle.fields.specs.Fields.{fields}
-use Rattle.fields.specs.declared.faults.FieldFault.{FieldFault}
 use Rattle.lines.specs.Verbs.{verb_text}
 use Rattle.lines.specs.declared.verbs.Verb.{Verb}
 use Rattle.lines.specs.declared.verbs.Verb.TheVariants.{Controllers, Set, Seal, Plans, Board, Offer, Hear}
 use Rattle.answers.specs.declared.faults.Fault.{Fault}
-use Rattle.answers.specs.declared.faults.Fault.TheVariants.{Field}
 use Rattle.answers.specs.declared.replies.Reply.{Reply}
 use Rattle.text.specs.declared.yards.Yard.{Yard}
 use Rattle.text.specs.Answering.{Obeys, Comes}
@@ -45,14 +43,4 @@ comes y y' line fs v r short is obeys =
           let first : verb_text v ≡ verb_text w = let e = sym is ∙ also in cc in
           let rest : fs ≡ gs = let e = sym is ∙ also in cc in
           subst (λ x. Obeys x y gs r y') (same_verb v w first) (subst (λ l. Obeys v y l r y') rest obeys);
-    }
-
--- and one whose first field names nothing
-pub nothing_named : (y y' : Yard) (line : List ℕ) (e : FieldFault) (r : Result Reply Fault) → length line ≤ 256 → e.field ≡ 1 → ((v : Verb) (fs : List (List ℕ)) → fields line ≡ verb_text v ∷ fs → ⊥) → r ≡ Err (Field e) → y' ≡ y → Comes y line r y'
-nothing_named y y' line e r short one none told same =
-    record {
-      too_long = λ long. absurd (omega arith);
-      unknown = λ _ _. (told ∙ ap (λ k. Err (Field (record { field = k }))) one, same);
-      unchanged = λ _ _. same;
-      known = λ _ v fs is. absurd (none v fs is);
     }

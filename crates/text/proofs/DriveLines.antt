@@ -1,45 +1,22 @@
--- What the lines that open and drive a controller come to, put together from what their steps gave.
+-- What the lines that drive a controller come to, put together from what their steps gave.
 use Rattle.std.proofs.Common.{◌≡◌, ℕ, List, Some, Ok, Err, Option, Result, sym, refl, ap, ◌∙◌, subst}
 use Rattle.duty.specs.declared.duties.Duty.{Ghosts as Duty}
 use Rattle.duty.specs.declared.values.Same.{Ghosts as Same}
-use Rattle.depot.specs.declared.boards.Board.{Board}
-use Rattle.depot.specs.declared.books.PlanBook.{PlanBook}
-use Rattle.depot.specs.declared.refusals.SettingsRefusal.{SettingsRefusal}
-use Rattle.depot.specs.declared.values.Grant.{Grant}
-use Rattle.depot.specs.declared.values.Plan.{Plan}
-use Rattle.depot.specs.BoardCalls as boards
-use Rattle.depot.specs.PlanCalls as books
 use Rattle.survivor.specs.declared.tables.Table.{Table}
 use Rattle.engine.specs.declared.controllers.Controller.{Controller}
 use Rattle.fields.specs.declared.faults.FieldFault.{FieldFault}
 use Rattle.lines.specs.Forms.{Read}
-use Rattle.lines.specs.Lines.{PlansForm, BoardForm, OfferForm, HearForm}
+use Rattle.lines.specs.Lines.{OfferForm, HearForm}
 use Rattle.answers.specs.declared.faults.Fault.{Fault}
 use Rattle.answers.specs.declared.faults.Fault.TheVariants as Faults
 use Rattle.answers.specs.declared.replies.Agreed.{Agreed}
-use Rattle.answers.specs.declared.replies.Agreed.TheVariants as Agreeds
 use Rattle.answers.specs.declared.replies.Reply.{Reply}
 use Rattle.text.specs.declared.yards.Running.{Running}
-use Rattle.text.specs.declared.yards.Running.TheVariants as Runnings
 use Rattle.text.specs.declared.yards.Yard.{Yard}
-use Rattle.text.specs.Yards.{ReadsThen, with_running}
-use Rattle.text.specs.Driving.{book_duty, plan_kind, board_duty, grant_kind, OpensOn, Opened, OpensPlans, OpensBoard, OfferRead, Offered, OffersTo, RowRead, RowHeard, Driven, HearsBy}
-use Rattle.text.proofs.DraftLines.{there}
+use Rattle.text.specs.Yards.{with_running}
+use Rattle.text.specs.Driving.{OfferRead, Offered, OffersTo, RowRead, RowHeard, Driven, HearsBy}
 use Rattle.text.proofs.Rows.{row_heard, row_unread}
 use Rattle.text.proofs.Stays.{row_refused, offer_refused}
-
--- ---- opening
-pub opens_plans : (y y' : Yard) (t : Table) (fs : List (List ℕ)) (said : ℕ × Plan) (b : PlanBook) (r : Result Reply Fault) →
-    y.table ≡ Some t → PlansForm fs said → books.Made said.0 (Ok b) → Opened book_duty plan_kind Agreeds.Plan Runnings.Plans t b said.1 y r y' → OpensPlans y fs r y'
-opens_plans y y' t fs said b r table form made opened =
-    there (λ t. ReadsThen PlansForm fs (λ said y r y'.
-    (m : Result PlanBook SettingsRefusal) × books.Made said.0 m × OpensOn book_duty plan_kind Agreeds.Plan Runnings.Plans t said.1 m y r y')) y.table t y y' r table (Ok said, form, (Ok b, made, opened))
-
-pub opens_board : (y y' : Yard) (t : Table) (fs : List (List ℕ)) (said : ℕ × ℕ × Grant) (b : Board) (r : Result Reply Fault) →
-    y.table ≡ Some t → BoardForm fs said → boards.Made (record { bays = said.0; feed = said.1 }) (Ok b) → Opened board_duty grant_kind Agreeds.Grant Runnings.Board t b said.2 y r y' → OpensBoard y fs r y'
-opens_board y y' t fs said b r table form made opened =
-    there (λ t. ReadsThen BoardForm fs (λ said y r y'.
-    (m : Result Board SettingsRefusal) × boards.Made (record { bays = said.0; feed = said.1 }) m × OpensOn board_duty grant_kind Agreeds.Grant Runnings.Board t said.2 m y r y')) y.table t y y' r table (Ok said, form, (Ok b, made, opened))
 
 -- ---- driving
 -- the controller that stood is put back
