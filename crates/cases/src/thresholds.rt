@@ -1,21 +1,25 @@
 //! Threshold structures.
 
-use crate::drafts::Listed;
-use std::io;
+use std::{fmt, io};
 use structure::Structure;
 use threshold::{Threshold, greatest_faults};
 
+/// The leads of a threshold structure as they are printed, with a space before each.
+#[derive(Drop)]
+struct Leads(Threshold);
+
+impl fmt::Display for Leads {
+    fn fmt<W: fmt::Write>(&self, f: &mut fmt::Formatter<W>) -> fmt::Result {
+        for lead in (0..17).map_while(|place| self.0.lead(place)) {
+            write!(f, " {lead}")?;
+        }
+        Ok(())
+    }
+}
+
 fn make(rt: &HostRuntime, n: u32, t: u32) -> io::Result<()> {
     match Threshold::new(n, t) {
-        Ok(yard) => {
-            let leads: Vec<u8> = (0..17)
-                .map_while(|place| yard.lead(place))
-                .collect(rt.alloc())?;
-            println!(rt;
-                "threshold n {n}, t {t}: stands, leads{}",
-                Listed(leads.as_slice())
-            )
-        }
+        Ok(yard) => println!(rt; "threshold n {n}, t {t}: stands, leads{}", Leads(yard)),
         Err(refusal) => println!(rt; "threshold n {n}, t {t}: refused {}", refusal.number()),
     }
 }

@@ -7,7 +7,6 @@ use anyhow::ensure;
 use depot::{Board, Grant};
 use duty::{Duty, DutyRefusal};
 use engine::{Controller, Heard};
-use std::alloc::{AllocError, Global};
 use std::fmt;
 use structure::Group;
 use survivor::{DraftRefusal, Table};
@@ -84,21 +83,16 @@ impl Yard {
         self.good.each_ref().map(|good| good.controller.speak())
     }
 
-    /// A row for each good controller: what the good ones spoke, and what the liars tell this one.
-    fn rows(
-        &self,
-        heap: Global,
-        spoken: &Words,
-        lies: &Words,
-    ) -> Result<[Vec<Word>; 3], AllocError> {
-        lies.try_map(|lie| {
-            let mut row = vec![in heap; lie; self.size]?;
+    /// A row for each good controller, with room for the largest yard: what the good ones spoke, and what the liars tell this one.
+    fn rows(&self, spoken: &Words, lies: &Words) -> [[Word; 16]; 3] {
+        lies.map(|lie| {
+            let mut row = [lie; 16];
             for (good, word) in self.good.iter().zip(spoken) {
                 if let Some(told) = row.get_mut(good.place) {
                     *told = *word;
                 }
             }
-            Ok(row)
+            row
         })
     }
 
@@ -112,9 +106,10 @@ impl Yard {
 
     /// One round; prints what a good controller answers where its slot closes.
     fn round(&mut self, rt: &HostRuntime, spoken: &Words, lies: &Words) -> anyhow::Result<()> {
-        let rows = self.rows(rt.alloc(), spoken, lies)?;
+        let rows = self.rows(spoken, lies);
+        let size = self.size.min(16);
         for (good, row) in self.good.iter_mut().zip(&rows) {
-            if let Heard::Closed(grant, outcome) = good.controller.hear(row.as_slice())? {
+            if let Heard::Closed(grant, outcome) = good.controller.hear(&row[..size])? {
                 println!(rt;
                     "{} closes with {grant}, {}",
                     good.place,

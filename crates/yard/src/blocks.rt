@@ -7,6 +7,9 @@ use std::marker::Model;
 /// How many bytes are read or written at a time.
 pub const BLOCK: usize = 65536;
 
+/// The most bytes that an answer has.
+const ANSWER: usize = 64;
+
 /// Up to `N` bytes, seen as the list of them. (The words of a row are kept in the same way, but never let go.)
 #[derive(Drop)]
 pub struct Kept<const N: usize> {
@@ -76,5 +79,31 @@ impl<const N: usize> Kept<N> {
         ensures { self.new ≡ [] }
     {
         self.bytes.clear();
+    }
+}
+
+impl Line {
+    /// Reads a byte of the line. What comes after the first 257 is not kept.
+    pub fn read(&mut self, byte: u8)
+        ensures { self.new ≡ take 257 (self.old ++ byte ∷ []) }
+    {
+        self.push(byte);
+    }
+}
+
+impl Answers {
+    /// Whether another answer, which has at most 64 bytes, has room.
+    pub fn has_room_for_one(&self) -> bool
+        ensures { result ≡ nat_le (length self.now + 64) 65536 }
+    {
+        self.has_room(ANSWER)
+    }
+
+    /// Adds an answer, if it has room.
+    pub fn answer(&mut self, answer: &[u8])
+        ensures room { length self.old + length answer.now ≤ 65536 → self.new ≡ self.old ++ answer.now }
+        ensures full { 65536 < length self.old + length answer.now → self.new ≡ self.old }
+    {
+        self.add(answer);
     }
 }

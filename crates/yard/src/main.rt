@@ -12,9 +12,6 @@ use std::io;
 use std::io::{Read, Write};
 use text::Yard;
 
-/// The most bytes that an answer has.
-const ANSWER: usize = 64;
-
 /// A text that is being answered: its yard, the line that is being read, and the answers that wait to be written.
 #[derive(Drop)]
 struct Session<'a, W> {
@@ -40,7 +37,7 @@ impl<'a, W: Write> Session<'a, W> {
             if *byte == b'\n' {
                 self.answer()?;
             } else {
-                self.line.push(*byte);
+                self.line.read(*byte);
             }
         }
         self.write_out()
@@ -58,10 +55,10 @@ impl<'a, W: Write> Session<'a, W> {
     fn answer(&mut self) -> io::Result<()> {
         let answer = self.yard.answer(self.line.bytes());
         self.line.clear();
-        if !self.answers.has_room(ANSWER) {
+        if !self.answers.has_room_for_one() {
             self.write_out()?;
         }
-        self.answers.add(answer.as_bytes());
+        self.answers.answer(answer.as_bytes());
         Ok(())
     }
 

@@ -2,9 +2,9 @@
 //!
 //! `\t`, `\r` and `\\` stand for a tab, a carriage return and a backslash, `\x` and two digits for the byte with this number in
 //! base 16, and `\e` for nothing, as in an empty line. `\*126{..}` stands for what is in the braces, 126 times.
-ghost use Rattle.std.specs.Prelude.{◌<◌, length, IfOk, IfSome};
+ghost use Rattle.std.specs.Prelude.{◌<◌, length, IfOk};
 
-use anyhow::{Context, bail};
+use anyhow::bail;
 use std::alloc::Global;
 
 /// The number of a digit in base 16, in lower case only, which `char::to_digit` would not ask.
@@ -14,14 +14,6 @@ fn hex_digit(byte: u8) -> anyhow::Result<u8> {
         b'a'..=b'f' => Ok(byte - b'a' + 10),
         _ => bail!("no digit in base 16 after \\x"),
     }
-}
-
-/// The bytes before the first of this one, and those after it.
-fn split_once(bytes: &[u8], at: u8) -> Option<(&[u8], &[u8])>
-    ensures { IfSome result (λ halves. length halves.1.now < length bytes.now) }
-{
-    let place = bytes.iter().position(|byte| *byte == at)?;
-    Some((&bytes[..place], &bytes[place + 1..]))
 }
 
 /// Adds what a text with no repetition begins with, and gives the rest of the text.
@@ -34,44 +26,57 @@ fn read_one<'t>(bytes: &mut Vec<u8>, text: &'t [u8]) -> anyhow::Result<&'t [u8]>
         [b'\\', b'r', rest @ ..] => (b'\r', rest),
         [b'\\', b'\\', rest @ ..] => (b'\\', rest),
         [b'\\', b'x', high, low, rest @ ..] => (hex_digit(*high)? << 4 | hex_digit(*low)?, rest),
-        [b'\\'] | [b'\\', b'x', ..] => bail!("an escape without its end"),
-        [b'\\', b'*', ..] => bail!("a repetition within another"),
+        [b'\\', b'x', high] => {
+            hex_digit(*high)?;
+            bail!("an escape without its end")
+        }
+        [] | [b'\\'] | [b'\\', b'x'] => bail!("an escape without its end"),
+        [b'\\', b'*', repetition @ ..] => {
+            read_times(repetition)?;
+            bail!("a repetition within another")
+        }
         [b'\\', ..] => bail!("an unknown escape"),
         [byte, rest @ ..] => (*byte, rest),
-        [] => bail!("an empty text"),
     };
     bytes.push(byte)?;
     Ok(rest)
 }
 
 /// The number that digits say, as far as 32 bits go; no digits say 0, which `parse` would refuse.
-fn number(digits: &[u8]) -> anyhow::Result<u32> {
-    let mut number = 0u32;
-    for digit in digits {
-        let b'0'..=b'9' = *digit else {
-            bail!("no brace after the number of a repetition");
-        };
-        number = number
+fn number(digits: &[u8]) -> u32 {
+    digits.iter().fold(0u32, |number, digit| {
+        number
             .saturating_mul(10)
-            .saturating_add(u32::from(*digit - b'0'));
+            .saturating_add(u32::from(digit.saturating_sub(b'0')))
+    })
+}
+
+/// How often a repetition is wanted, of which the text stands after `\*`, and the text after its brace.
+fn read_times(text: &[u8]) -> anyhow::Result<(u32, &[u8])>
+    ensures { IfOk result (λ read. length read.1.now < length text.now) }
+{
+    let end = text
+        .iter()
+        .position(|byte| !byte.is_ascii_digit())
+        .unwrap_or(text.len());
+    match text.split_at(end) {
+        (digits, [b'{', body @ ..]) => Ok((number(digits), body)),
+        (_, []) => bail!("an escape without its end"),
+        _ => bail!("no brace after the number of a repetition"),
     }
-    Ok(number)
 }
 
 /// Adds a repetition, of which the text stands after `\*`, and gives the rest of the text.
 fn read_repetition<'t>(bytes: &mut Vec<u8>, text: &'t [u8]) -> anyhow::Result<&'t [u8]>
     ensures { IfOk result (λ rest. length rest.now < length text.now) }
 {
-    let (digits, text) = split_once(text, b'{').context(
-        "no brace after the number of a repetition",
-    )?;
-    let times = number(digits)?;
-    let (mut body, rest) = split_once(text, b'}').context("an escape without its end")?;
+    let (times, mut body) = read_times(text)?;
     let mut repeated = Vec::new(*bytes.allocator());
     // `while`: how much a step reads, the step says
-    while !body.is_empty() {
+    while !body.starts_with(b"}") {
         body = read_one(&mut repeated, body)?;
     }
+    let rest = &body[1..];
     for _ in 0..times {
         bytes.extend_from_slice(repeated.as_slice())?;
     }

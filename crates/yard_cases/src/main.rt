@@ -15,7 +15,7 @@ use std::io;
 /// Runs each line of a script.
 fn run_script<'a>(rt: &HostRuntime, script: &'a str) -> anyhow::Result<()> {
     let mut cases: Run<'a> = Run::new();
-    for (number, line) in (1..).zip(script.lines()) {
+    for (number, line) in (1usize..).zip(script.lines()) {
         cases.read(rt, line).inspect_err(|_| {
             let _ = eprintln!(rt; "yard_cases: line {number} of the script is at fault");
         })?;

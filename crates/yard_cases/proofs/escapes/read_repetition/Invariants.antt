@@ -1,5 +1,8 @@
-use Rattle.std.proofs.Common.{length}
+use Rattle.std.proofs.Common.{◌<◌, length}
 use Rattle.yard_cases.proofs.escapes.read_repetition.Given as goal
 
-abbrev pub decreases-loop-body : goal.decreases-loop-body
-decreases-loop-body l = length l.body
+abbrev pub decreases-loop-repeated : goal.decreases-loop-repeated
+decreases-loop-repeated l = length l.body
+
+abbrev pub invariant-loop-repeated : goal.invariant-loop-repeated
+invariant-loop-repeated l = length l.body < length l.fn.text
