@@ -107,6 +107,7 @@ impl Yard {
     /// One round; prints what a good controller answers where its slot closes.
     fn round(&mut self, rt: &HostRuntime, spoken: &Words, lies: &Words) -> anyhow::Result<()> {
         let rows = self.rows(spoken, lies);
+        // no yard is larger, and no row has more words
         let size = self.size.min(16);
         for (good, row) in self.good.iter_mut().zip(&rows) {
             if let Heard::Closed(grant, outcome) = good.controller.hear(&row[..size])? {

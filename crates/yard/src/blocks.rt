@@ -93,14 +93,14 @@ impl Line {
 
 impl Answers {
     /// Whether another answer, which has at most 64 bytes, has room.
-    pub fn has_room_for_one(&self) -> bool
+    pub fn has_room_for_answer(&self) -> bool
         ensures { result ≡ nat_le (length self.now + 64) 65536 }
     {
         self.has_room(ANSWER)
     }
 
     /// Adds an answer, if it has room.
-    pub fn answer(&mut self, answer: &[u8])
+    pub fn add_answer(&mut self, answer: &[u8])
         ensures room { length self.old + length answer.now ≤ 65536 → self.new ≡ self.old ++ answer.now }
         ensures full { 65536 < length self.old + length answer.now → self.new ≡ self.old }
     {

@@ -55,10 +55,10 @@ impl<'a, W: Write> Session<'a, W> {
     fn answer(&mut self) -> io::Result<()> {
         let answer = self.yard.answer(self.line.bytes());
         self.line.clear();
-        if !self.answers.has_room_for_one() {
+        if !self.answers.has_room_for_answer() {
             self.write_out()?;
         }
-        self.answers.answer(answer.as_bytes());
+        self.answers.add_answer(answer.as_bytes());
         Ok(())
     }
 

@@ -42,7 +42,7 @@ fn read_one<'t>(bytes: &mut Vec<u8>, text: &'t [u8]) -> anyhow::Result<&'t [u8]>
     Ok(rest)
 }
 
-/// The number that digits say, as far as 32 bits go; no digits say 0, which `parse` would refuse.
+/// The number that bytes say, all of them digits, as far as 32 bits go; none say 0, which `parse` would refuse.
 fn number(digits: &[u8]) -> u32 {
     digits.iter().fold(0u32, |number, digit| {
         number
