@@ -24,7 +24,8 @@ impl Answer {
 
     /// The bytes that it has.
     pub fn as_bytes(&self) -> &[u8]
-        ensures { result.now ≡ shown self.now }
+        ensures bytes { result.now ≡ shown self.now }
+        ensures few { length result.now ≤ 64 }
     {
         self.text.as_str().as_bytes()
     }

@@ -14,6 +14,9 @@ use survivor::{DraftRefusal, Table};
 /// A word: a grant, or nothing.
 type Word = Option<Grant>;
 
+/// The most controllers that a yard has.
+const LARGEST: usize = 16;
+
 /// A word of each good controller, or for each.
 type Words = [Word; 3];
 
@@ -83,10 +86,11 @@ impl Yard {
         self.good.each_ref().map(|good| good.controller.speak())
     }
 
-    /// A row for each good controller, with room for the largest yard: what the good ones spoke, and what the liars tell this one.
-    fn rows(&self, spoken: &Words, lies: &Words) -> [[Word; 16]; 3] {
+    /// A row for each good controller: what the good ones spoke, and everywhere else what the liars tell this one. The places of the
+    /// yard are heard, and no others.
+    fn rows(&self, spoken: &Words, lies: &Words) -> [[Word; LARGEST]; 3] {
         lies.map(|lie| {
-            let mut row = [lie; 16];
+            let mut row = [lie; LARGEST];
             for (good, word) in self.good.iter().zip(spoken) {
                 if let Some(told) = row.get_mut(good.place) {
                     *told = *word;
@@ -107,8 +111,7 @@ impl Yard {
     /// One round; prints what a good controller answers where its slot closes.
     fn round(&mut self, rt: &HostRuntime, spoken: &Words, lies: &Words) -> anyhow::Result<()> {
         let rows = self.rows(spoken, lies);
-        // no yard is larger, and no row has more words
-        let size = self.size.min(16);
+        let size = self.size.min(LARGEST);
         for (good, row) in self.good.iter_mut().zip(&rows) {
             if let Heard::Closed(grant, outcome) = good.controller.hear(&row[..size])? {
                 println!(rt;

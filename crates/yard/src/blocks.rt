@@ -82,9 +82,11 @@ impl<const N: usize> Kept<N> {
     }
 }
 
+// What the program calls of the two instances has their numbers in its clauses: those of `Kept` say `N`, whatever it is.
+
 impl Line {
-    /// Reads a byte of the line. What comes after the first 257 is not kept.
-    pub fn read(&mut self, byte: u8)
+    /// Keeps a byte of the line, if it is among the first 257.
+    pub fn keep(&mut self, byte: u8)
         ensures { self.new ≡ take 257 (self.old ++ byte ∷ []) }
     {
         self.push(byte);

@@ -37,7 +37,7 @@ impl<'a, W: Write> Session<'a, W> {
             if *byte == b'\n' {
                 self.answer()?;
             } else {
-                self.line.read(*byte);
+                self.line.keep(*byte);
             }
         }
         self.write_out()

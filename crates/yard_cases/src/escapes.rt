@@ -95,3 +95,65 @@ pub fn unfold(heap: Global, line: &str) -> anyhow::Result<Vec<u8>> {
     }
     Ok(bytes)
 }
+
+#[cfg(test)]
+mod tests {
+    use super::unfold;
+    use std::test::Fail;
+
+    const NO_END: &str = "an escape without its end";
+
+    const NO_DIGIT: &str = "no digit in base 16 after \\x";
+
+    const NO_BRACE: &str = "no brace after the number of a repetition";
+
+    const WITHIN: &str = "a repetition within another";
+
+    const UNKNOWN: &str = "an unknown escape";
+
+    /// The fault at the lowest place is told, whatever comes after it.
+    #[test]
+    fn a_malformed_line_tells_its_first_fault(rt: HostRuntime) -> Result<(), Fail> {
+        let alloc = rt.alloc();
+        for (line, fault) in [
+            ("\\", NO_END),
+            ("\\x", NO_END),
+            ("\\x4", NO_END),
+            ("\\xg", NO_DIGIT),
+            ("\\xA1", NO_DIGIT),
+            ("\\x4g", NO_DIGIT),
+            ("\\q", UNKNOWN),
+            ("\\*", NO_END),
+            ("\\*12", NO_END),
+            ("\\*1q{a}", NO_BRACE),
+            ("\\*2{a", NO_END),
+            ("\\*2{\\}", UNKNOWN),
+            ("\\*2{\\x}", NO_DIGIT),
+            ("\\*2{\\x4}", NO_DIGIT),
+            ("\\*2{\\q", UNKNOWN),
+            ("\\*2{\\*3", NO_END),
+            ("\\*2{\\*3}", NO_BRACE),
+            ("\\*2{\\*3{a}}", WITHIN),
+            ("a\\q\\xg", UNKNOWN),
+        ] {
+            let told = match unfold(alloc, line) {
+                Ok(_) => format!(in alloc; "no fault")?,
+                Err(error) => format!(in alloc; "{error}")?,
+            };
+            assert_eq!(rt; told.as_str(), fault, "at {line}");
+        }
+        Ok(())
+    }
+
+    #[test]
+    fn escapes_stand_for_bytes(rt: HostRuntime) -> Result<(), Fail> {
+        for (line, bytes) in [
+            ("a\\t\\r\\\\\\x0f\\e}", "a\t\r\\\x0f}"),
+            ("\\*3{a\\x62}c", "abababc"),
+            ("\\*0{a}\\*{b}}", "}"),
+        ] {
+            assert_eq!(rt; unfold(rt.alloc(), line)?.as_slice(), bytes.as_bytes());
+        }
+        Ok(())
+    }
+}
